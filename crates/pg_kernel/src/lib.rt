@@ -1,0 +1,8 @@
+//! Formal proofs, and the kernel that checks them.
+#![tactic(auto)]
+
+mod checking;
+mod proof;
+
+pub use checking::{Verdict, check_first};
+pub use proof::Proof;

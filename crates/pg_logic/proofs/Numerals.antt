@@ -1,0 +1,37 @@
+-- Values of numerals, and worked rows of the definitions.
+use Rattle.std.proofs.Common.{◌≡◌, ℕ, ◌+◌, List, [], ◌∷◌, Bool, true, false, IsTrue, refl, arith, ap, sym, ◌∙◌}
+use Rattle.std.proofs.lemmas.Bool.{true≢false, false≢true}
+use Rattle.pg_logic.specs.Tree.{Tm, free, bound, nought, succ, app, Tms, none, arg, same, Fm, falsum, eq, pred, and, or, imp, all, ex}
+use Rattle.pg_logic.specs.Signature.{Signature}
+use Rattle.pg_logic.specs.Value.{Functions, value, values, functions_of}
+use Rattle.pg_logic.specs.Truth.{IsTrueOf}
+use Rattle.pg_logic.specs.Kernel.{is_reflexive}
+use Rattle.pg_logic.specs.Numeral.{is_numeral, IsNumeralEquation, standard_value, SidesHaveOneValue, no_declarations}
+use Rattle.pg_logic.proofs.Stable.{same-true}
+
+-- t = t is true under every signature and every list
+pub true-reflexive : (s : Signature) (fr : List ℕ) (a : Fm) → is_reflexive a ≡ true → IsTrueOf s fr a
+true-reflexive s fr (eq t u) h = ap (value (functions_of s.functions) fr []) (same-true t u h)
+true-reflexive s fr falsum h = absurd (false≢true h)
+true-reflexive s fr (pred p ts) h = absurd (false≢true h)
+true-reflexive s fr (and a b) h = absurd (false≢true h)
+true-reflexive s fr (or a b) h = absurd (false≢true h)
+true-reflexive s fr (imp a b) h = absurd (false≢true h)
+true-reflexive s fr (all x a) h = absurd (false≢true h)
+true-reflexive s fr (ex x a) h = absurd (false≢true h)
+
+-- numerals of one value are the same
+numeral-same : (of : Functions) (s t : Tm) → is_numeral s ≡ true → is_numeral t ≡ true → value of [] [] s ≡ value of [] [] t → same s t ≡ true
+numeral-same of nought nought g h e = refl
+numeral-same of nought (succ t) g h e = absurd (omega (arith, e))
+numeral-same of (succ s) nought g h e = absurd (omega (arith, e))
+numeral-same of (succ s) (succ t) g h e = numeral-same of s t g h (omega (arith, e))
+numeral-same of (free i) t g h e = absurd (false≢true g)
+numeral-same of (bound i) t g h e = absurd (false≢true g)
+numeral-same of (app f ts) t g h e = absurd (false≢true g)
+numeral-same of nought (free i) g h e = absurd (false≢true h)
+numeral-same of nought (bound i) g h e = absurd (false≢true h)
+numeral-same of nought (app f ts) g h e = absurd (false≢true h)
+numeral-same of (succ s) (free i) g h e = absurd (false≢true h)
+numeral-same of (succ s) (bound i) g h e = absurd (false≢true h)
+numeral-same of (succ s) (app f ts) g h e = absurd (false≢true h)

@@ -1,0 +1,29 @@
+-- Numerals, and the standard model where nothing is declared.
+use Rattle.std.specs.Prelude.{ℕ, Bool, true, false, List, [], ◌≡◌, IsTrue}
+use Rattle.pg_logic.specs.Tree.{Tm, free, bound, nought, succ, app, Fm, falsum, eq, pred, and, or, imp, all, ex}
+use Rattle.pg_logic.specs.Signature.{Signature}
+use Rattle.pg_logic.specs.Value.{value, functions_of}
+
+-- the empty signature
+abbrev pub no_declarations : Signature
+no_declarations = record { functions = []; predicates = [] }
+
+-- a numeral: 0 under any number of successors
+abbrev pub is_numeral : Tm → Bool
+is_numeral nought = true
+is_numeral (succ t) = is_numeral t
+is_numeral _ = false
+
+-- an equation of two numerals
+abbrev pub IsNumeralEquation : Fm → Type 0
+IsNumeralEquation (eq s t) = IsTrue (is_numeral s) × IsTrue (is_numeral t)
+IsNumeralEquation _ = ⊥
+
+-- the value of a term in the standard model, over the empty signature
+abbrev pub standard_value : Tm → ℕ
+standard_value t = value (functions_of no_declarations.functions) [] [] t
+
+-- an equation whose two sides have one value in the standard model
+abbrev pub SidesHaveOneValue : Fm → Type 0
+SidesHaveOneValue (eq s t) = standard_value s ≡ standard_value t
+SidesHaveOneValue _ = ⊥
