@@ -1,5 +1,5 @@
 -- Numerals, and the standard model where nothing is declared.
-use Rattle.std.specs.Prelude.{ℕ, Bool, true, false, List, [], ◌≡◌, IsTrue}
+use Rattle.std.specs.Prelude.{ℕ, Bool, true, false, List, [], ◌≡◌, IsTrue, ◌&&◌}
 use Rattle.pg_logic.specs.Tree.{Tm, free, bound, nought, succ, app, Fm, falsum, eq, pred, and, or, imp, all, ex}
 use Rattle.pg_logic.specs.Signature.{Signature}
 use Rattle.pg_logic.specs.Value.{value, functions_of}
@@ -27,3 +27,8 @@ standard_value t = value (functions_of no_declarations.functions) [] [] t
 abbrev pub SidesHaveOneValue : Fm → Type 0
 SidesHaveOneValue (eq s t) = standard_value s ≡ standard_value t
 SidesHaveOneValue _ = ⊥
+
+-- whether a formula is an equation of two numerals
+abbrev pub is_numeral_equation : Fm → Bool
+is_numeral_equation (eq s t) = is_numeral s && is_numeral t
+is_numeral_equation _ = false

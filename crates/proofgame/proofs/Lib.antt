@@ -1,0 +1,2 @@
+mod Games
+mod Shapes

@@ -1,0 +1,15 @@
+use Rattle.std.proofs.Common.{◌≡◌, Option, Some, None, subst}
+use Rattle.proofgame.specs.declared.game.Game.{Game}
+use Rattle.proofgame.specs.Reading.{parts_of, game_at}
+use Rattle.proofgame.proofs.Games.{none-found, checked-found}
+use Rattle.proofgame.proofs.game.game_of.Goals as goal
+
+pub returns-in-None : goal.returns-in-None
+returns-in-None c =
+    let P : Option Game → Type 0 = λ o. parts_of o ≡ game_at c.args.symbols.now in
+    none-found c.args.symbols.now (subst P c.in-None.is c.in_ok-game.ensures)
+
+pub returns-in-Some : goal.returns-in-Some
+returns-in-Some c =
+    let P : Option Game → Type 0 = λ o. parts_of o ≡ game_at c.args.symbols.now in
+    checked-found c.args.symbols.now c.in-Some.game c.checked.result (subst P c.in-Some.is c.in_ok-game.ensures) c.checked.ensures

@@ -1,0 +1,3 @@
+pub mod Game
+pub mod Reading
+pub mod Symbols

@@ -1,0 +1,8 @@
+//! Plays the level of a proof game.
+#![tactic(auto)]
+
+mod game;
+mod numeral;
+mod symbol;
+
+fn main() {}
