@@ -1,1 +1,1 @@
-mod Reflexivity
+pub mod Reflexivity

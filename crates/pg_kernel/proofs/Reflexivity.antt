@@ -13,9 +13,13 @@ abbrev is_accepted : Verdict → Bool
 is_accepted Accepted = true
 is_accepted (Refused node rule) = false
 
-accepted-true : (b : Bool) → verdict_of (unless b 0 17) ≡ Accepted → b ≡ true
+pub accepted-true : (b : Bool) → verdict_of (unless b 0 17) ≡ Accepted → b ≡ true
 accepted-true true e = refl
 accepted-true false e = ap is_accepted e
 
 pub sound : (v : Verdict) (a : Fm) → v ≡ verdict_of (unless (is_reflexive a) 0 17) → v ≡ Accepted → (s : Signature) (free : List ℕ) → IsTrueOf s free a
 sound v a given accepted s free = true-reflexive s free a (accepted-true (is_reflexive a) (sym given ∙ accepted))
+
+pub refused-false : (b : Bool) (node rule : ℕ) → Refused node rule ≡ verdict_of (unless b 0 17) → b ≡ false
+refused-false true node rule e = sym (ap is_accepted e)
+refused-false false node rule e = refl

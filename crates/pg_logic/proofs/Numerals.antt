@@ -35,3 +35,41 @@ numeral-same of nought (app f ts) g h e = absurd (false≢true h)
 numeral-same of (succ s) (free i) g h e = absurd (false≢true h)
 numeral-same of (succ s) (bound i) g h e = absurd (false≢true h)
 numeral-same of (succ s) (app f ts) g h e = absurd (false≢true h)
+
+-- an equation that is true of the empty signature has sides of one value
+pub true-sides : (a : Fm) → IsNumeralEquation a → IsTrueOf no_declarations [] a → SidesHaveOneValue a
+true-sides (eq s t) n e = e
+true-sides falsum n e = absurd n
+true-sides (pred p ts) n e = absurd n
+true-sides (and a b) n e = absurd n
+true-sides (or a b) n e = absurd n
+true-sides (imp a b) n e = absurd n
+true-sides (all x a) n e = absurd n
+true-sides (ex x a) n e = absurd n
+
+-- numerals of one value are the same, so their equation is reflexive
+pub sides-reflexive : (a : Fm) → IsNumeralEquation a → SidesHaveOneValue a → is_reflexive a ≡ true
+sides-reflexive (eq s t) n e = numeral-same (functions_of no_declarations.functions) s t n.0 n.1 e
+sides-reflexive falsum n e = absurd n
+sides-reflexive (pred p ts) n e = absurd n
+sides-reflexive (and a b) n e = absurd n
+sides-reflexive (or a b) n e = absurd n
+sides-reflexive (imp a b) n e = absurd n
+sides-reflexive (all x a) n e = absurd n
+sides-reflexive (ex x a) n e = absurd n
+
+-- worked rows: the value of a numeral, and what is a numeral
+value-two : standard_value (succ (succ nought)) ≡ 2
+value-two = refl
+
+numeral-two : is_numeral (succ (succ nought)) ≡ true
+numeral-two = refl
+
+numeral-free : is_numeral (succ (free 0)) ≡ false
+numeral-free = refl
+
+sides-two : SidesHaveOneValue (eq (succ (succ nought)) (succ (succ nought)))
+sides-two = refl
+
+sides-one-nought : SidesHaveOneValue (eq (succ nought) nought) → ⊥
+sides-one-nought e = absurd (omega (arith, e))
