@@ -1,12 +1,12 @@
 -- Values of numerals, and worked rows of the definitions.
 use Rattle.std.proofs.Common.{◌≡◌, ℕ, ◌+◌, List, [], ◌∷◌, Bool, true, false, IsTrue, refl, arith, ap, sym, ◌∙◌}
-use Rattle.std.proofs.lemmas.Bool.{true≢false, false≢true}
+use Rattle.std.proofs.lemmas.Bool.{true≢false, false≢true, and_parts}
 use Rattle.pg_logic.specs.Tree.{Tm, free, bound, nought, succ, app, Tms, none, arg, same, Fm, falsum, eq, pred, and, or, imp, all, ex}
 use Rattle.pg_logic.specs.Signature.{Signature}
 use Rattle.pg_logic.specs.Value.{Functions, value, values, functions_of}
 use Rattle.pg_logic.specs.Truth.{IsTrueOf}
 use Rattle.pg_logic.specs.Kernel.{is_reflexive}
-use Rattle.pg_logic.specs.Numeral.{is_numeral, IsNumeralEquation, standard_value, SidesHaveOneValue, no_declarations}
+use Rattle.pg_logic.specs.Numeral.{is_numeral, is_numeral_equation, standard_value, SidesHaveOneValue, no_declarations}
 use Rattle.pg_logic.proofs.Stable.{same-true}
 
 -- t = t is true under every signature and every list
@@ -37,26 +37,27 @@ numeral-same of (succ s) (bound i) g h e = absurd (false≢true h)
 numeral-same of (succ s) (app f ts) g h e = absurd (false≢true h)
 
 -- an equation that is true of the empty signature has sides of one value
-pub true-sides : (a : Fm) → IsNumeralEquation a → IsTrueOf no_declarations [] a → SidesHaveOneValue a
+pub true-sides : (a : Fm) → IsTrue (is_numeral_equation a) → IsTrueOf no_declarations [] a → SidesHaveOneValue a
 true-sides (eq s t) n e = e
-true-sides falsum n e = absurd n
-true-sides (pred p ts) n e = absurd n
-true-sides (and a b) n e = absurd n
-true-sides (or a b) n e = absurd n
-true-sides (imp a b) n e = absurd n
-true-sides (all x a) n e = absurd n
-true-sides (ex x a) n e = absurd n
+true-sides falsum n e = absurd (false≢true n)
+true-sides (pred p ts) n e = absurd (false≢true n)
+true-sides (and a b) n e = absurd (false≢true n)
+true-sides (or a b) n e = absurd (false≢true n)
+true-sides (imp a b) n e = absurd (false≢true n)
+true-sides (all x a) n e = absurd (false≢true n)
+true-sides (ex x a) n e = absurd (false≢true n)
 
 -- numerals of one value are the same, so their equation is reflexive
-pub sides-reflexive : (a : Fm) → IsNumeralEquation a → SidesHaveOneValue a → is_reflexive a ≡ true
-sides-reflexive (eq s t) n e = numeral-same (functions_of no_declarations.functions) s t n.0 n.1 e
-sides-reflexive falsum n e = absurd n
-sides-reflexive (pred p ts) n e = absurd n
-sides-reflexive (and a b) n e = absurd n
-sides-reflexive (or a b) n e = absurd n
-sides-reflexive (imp a b) n e = absurd n
-sides-reflexive (all x a) n e = absurd n
-sides-reflexive (ex x a) n e = absurd n
+pub sides-reflexive : (a : Fm) → IsTrue (is_numeral_equation a) → SidesHaveOneValue a → is_reflexive a ≡ true
+sides-reflexive (eq s t) n e =
+    let both = and_parts _ _ n in numeral-same (functions_of no_declarations.functions) s t both.0 both.1 e
+sides-reflexive falsum n e = absurd (false≢true n)
+sides-reflexive (pred p ts) n e = absurd (false≢true n)
+sides-reflexive (and a b) n e = absurd (false≢true n)
+sides-reflexive (or a b) n e = absurd (false≢true n)
+sides-reflexive (imp a b) n e = absurd (false≢true n)
+sides-reflexive (all x a) n e = absurd (false≢true n)
+sides-reflexive (ex x a) n e = absurd (false≢true n)
 
 -- worked rows: the value of a numeral, and what is a numeral
 value-two : standard_value (succ (succ nought)) ≡ 2

@@ -15,9 +15,9 @@ is_numeral (succ t) = is_numeral t
 is_numeral _ = false
 
 -- an equation of two numerals
-abbrev pub IsNumeralEquation : Fm → Type 0
-IsNumeralEquation (eq s t) = IsTrue (is_numeral s) × IsTrue (is_numeral t)
-IsNumeralEquation _ = ⊥
+abbrev pub is_numeral_equation : Fm → Bool
+is_numeral_equation (eq s t) = is_numeral s && is_numeral t
+is_numeral_equation _ = false
 
 -- the value of a term in the standard model, over the empty signature
 abbrev pub standard_value : Tm → ℕ
@@ -27,8 +27,3 @@ standard_value t = value (functions_of no_declarations.functions) [] [] t
 abbrev pub SidesHaveOneValue : Fm → Type 0
 SidesHaveOneValue (eq s t) = standard_value s ≡ standard_value t
 SidesHaveOneValue _ = ⊥
-
--- whether a formula is an equation of two numerals
-abbrev pub is_numeral_equation : Fm → Bool
-is_numeral_equation (eq s t) = is_numeral s && is_numeral t
-is_numeral_equation _ = false

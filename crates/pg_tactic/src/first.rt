@@ -1,6 +1,6 @@
-ghost use Rattle.std.specs.Prelude.{◌≡◌, []};
+ghost use Rattle.std.specs.Prelude.{◌≡◌, [], IsTrue};
 ghost use Rattle.pg_logic.specs.Kernel.{fault_of};
-ghost use Rattle.pg_logic.specs.Numeral.{IsNumeralEquation, SidesHaveOneValue, no_declarations};
+ghost use Rattle.pg_logic.specs.Numeral.{is_numeral_equation, SidesHaveOneValue, no_declarations};
 ghost use Rattle.pg_terms.specs.View.{formula};
 ghost use Rattle.pg_kernel.specs.View.{proof_of};
 ghost use Rattle.pg_tactic.specs.First.{first_run, IfClosed, IsAccepted};
@@ -33,7 +33,7 @@ pub enum First {
 /// It takes no memory. The empty script leaves the goal open. `rfl` closes it exactly where the
 /// two sides are the same term, which is where they have one value, and stops else.
 pub fn run_first(target: &Formula, script: &FirstScript) -> First
-    requires numerals { IsNumeralEquation (formula target.now) }
+    requires numerals { IsTrue (is_numeral_equation (formula target.now)) }
     ensures exact { result ≡ first_run script.now (formula target.now) }
     // the kernel accepts the proof of a closed goal
     ensures accepted { IfClosed result (λ p. IsAccepted (proof_of p) (formula target.now)) }
