@@ -1,2 +1,4 @@
 mod Games
+mod Scripts
 mod Shapes
+mod Taking
