@@ -1,3 +1,4 @@
+mod Endings
 mod Games
 mod Scripts
 mod Shapes

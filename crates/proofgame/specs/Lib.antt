@@ -1,7 +1,9 @@
 pub mod Asked
 pub mod Ending
 pub mod Game
+pub mod Print
 pub mod Reading
+pub mod Run
 pub mod Script
 pub mod Symbols
 pub mod Words

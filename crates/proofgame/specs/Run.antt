@@ -1,0 +1,124 @@
+-- One run of the program: how it ends, what it asks for, and what it prints.
+use Rattle.std.specs.Prelude.{◌≡◌, ◌⊎◌, ℕ, true, false, List, [], ◌∷◌, Option, Some, None, ⊤}
+use Rattle.std.specs.Borrow.{Bor}
+use Rattle.pg_logic.specs.Tree.{Fm}
+use Rattle.pg_logic.specs.Kernel.{is_reflexive, reflexive}
+use Rattle.pg_logic.specs.Numeral.{SidesHaveOneValue, no_declarations}
+use Rattle.pg_logic.specs.Truth.{IsTrueOf}
+use Rattle.pg_terms.specs.View.{formula}
+use Rattle.pg_tactic.specs.First.{IsAccepted}
+use Rattle.pg_tactic.specs.declared.first.FirstScript.{FirstScript}
+use Rattle.pg_tactic.specs.declared.first.FirstScript.TheVariants.{Empty, Rfl}
+use Rattle.pg_base.specs.Outside.{GivesFile, Told}
+use Rattle.pg_base.specs.declared.outside.Place.{Place}
+use Rattle.pg_base.specs.declared.outside.Place.TheVariants.{Standard}
+use Rattle.proofgame.specs.Asked.{OneMore, FinishesFirst, LeavesLists}
+use Rattle.proofgame.specs.Game.{IsGameText}
+use Rattle.proofgame.specs.Print.{Printed}
+use Rattle.proofgame.specs.Script.{script_of, DoorGave}
+use Rattle.proofgame.specs.Words.{game_name}
+use Rattle.proofgame.specs.Ending.{line, text_of, status_of}
+use Rattle.proofgame.specs.declared.game.Sample.{Sample}
+use Rattle.proofgame.specs.declared.ending.Ending.{Ending}
+use Rattle.proofgame.specs.declared.ending.Ending.TheVariants.{Words, File, OtherGame, Door, Memory, Won, Open, SidesDiffer, OtherScript}
+
+-- ---- how a run ends
+
+-- The target's sides are one numeral: the kernel accepts the proof by reflexivity, both sides have one value in the
+-- standard model, and so the target is true of the natural numbers.
+pub record IsWon (target : Fm) : Type 0 where
+  pub same : is_reflexive target ≡ true
+  pub accepted : IsAccepted reflexive target
+  pub value : SidesHaveOneValue target
+  pub truth : IsTrueOf no_declarations [] target
+
+-- what a script makes of a target
+abbrev pub Ends : Fm → Option FirstScript → Ending → Type 0
+Ends target (Some Rfl) Won = IsWon target
+Ends target (Some Rfl) SidesDiffer = is_reflexive target ≡ false
+Ends target (Some Empty) (Open shown) = formula shown.formula ≡ target
+Ends target None OtherScript = ⊤
+Ends target script ending = ⊥
+
+-- the door gave a script, and it makes this of the target
+pub record Plays (target : Fm) (coming : Option (List Told)) (ending : Ending) : Type 0 where
+  pub script : List ℕ
+  pub gave : DoorGave coming script
+  pub ends : Ends target (script_of script) ending
+
+-- The door fails only by its cause, and want of memory is free.
+abbrev pub PlaysAt : Fm → Option (List Told) → Type 0 → Ending → Type 0
+PlaysAt target coming door_failed Door = door_failed
+PlaysAt target coming door_failed Memory = ⊤
+PlaysAt target coming door_failed ending = Plays target coming ending
+
+-- the text is a game, and it is played to this ending
+pub record EndsGame (text : List ℕ) (coming : Option (List Told)) (door_failed : Type 0) (ending : Ending) : Type 0 where
+  pub target : Fm
+  pub sample : Sample
+  pub game : IsGameText text target sample
+  pub plays : PlaysAt target coming door_failed ending
+
+-- how a run with this text ends
+abbrev pub EndsText : List ℕ → Option (List Told) → Type 0 → Ending → Type 0
+EndsText text coming door_failed OtherGame = (target : Fm) (sample : Sample) → IsGameText text target sample → ⊥
+EndsText text coming door_failed Memory = ⊤
+EndsText text coming door_failed ending = EndsGame text coming door_failed ending
+
+-- the file that the words name gave a text, and the run with it ends so
+pub record EndsFile (words : List (Bor (List ℕ))) (files : Option (List (List ℕ × List ℕ))) (coming : Option (List Told)) (door_failed : Type 0) (ending : Ending) : Type 0 where
+  pub name : List ℕ
+  pub named : game_name words ≡ Some name
+  pub text : List ℕ
+  pub gives : GivesFile files name 1048576 text
+  pub ends : EndsText text coming door_failed ending
+
+-- how a run ends
+abbrev pub EndsRun : List (Bor (List ℕ)) → Option (List (List ℕ × List ℕ)) → Option (List Told) → Type 0 → Type 0 → Ending → Type 0
+EndsRun words files coming file_failed door_failed Words = game_name words ≡ None
+EndsRun words files coming file_failed door_failed (File name) = (game_name words ≡ Some name.now) × file_failed
+EndsRun words files coming file_failed door_failed Memory = ⊤
+EndsRun words files coming file_failed door_failed ending = EndsFile words files coming door_failed ending
+
+-- ---- what it asks for
+
+-- the file of the words was asked for
+pub record AsksFile (words : List (Bor (List ℕ))) (old new : List (List ℕ)) : Type 0 where
+  pub name : List ℕ
+  pub named : game_name words ≡ Some name
+  pub asked : OneMore old new name
+
+-- the names asked for, before and after a run that ends so; where memory ran out, a part of them
+abbrev pub AsksFiles : List (Bor (List ℕ)) → List (List ℕ) → List (List ℕ) → Ending → Type 0
+AsksFiles words old new Words = new ≡ old
+AsksFiles words old new Memory = (new ≡ old) ⊎ AsksFile words old new
+AsksFiles words old new ending = AsksFile words old new
+
+-- the same of the door's places
+abbrev pub AsksPlaces : List Place → List Place → Ending → Type 0
+AsksPlaces old new Words = new ≡ old
+AsksPlaces old new (File name) = new ≡ old
+AsksPlaces old new OtherGame = new ≡ old
+AsksPlaces old new Memory = (new ≡ old) ⊎ OneMore old new Standard
+AsksPlaces old new ending = OneMore old new Standard
+
+-- the door's connections, before and after a run that ends so
+abbrev pub DoorListsAt : Option (List Told) → Option (List Told) → Option (List Told) → Option (List Told) → Ending → Type 0
+DoorListsAt to_come coming old new Words = LeavesLists to_come coming old new
+DoorListsAt to_come coming old new (File name) = LeavesLists to_come coming old new
+DoorListsAt to_come coming old new OtherGame = LeavesLists to_come coming old new
+DoorListsAt to_come coming old new Memory = LeavesLists to_come coming old new ⊎ FinishesFirst to_come coming old new
+DoorListsAt to_come coming old new Door = LeavesLists to_come coming old new ⊎ FinishesFirst to_come coming old new
+DoorListsAt to_come coming old new ending = FinishesFirst to_come coming old new
+
+-- ---- a run
+
+pub record Runs (words : List (Bor (List ℕ))) (files : Option (List (List ℕ × List ℕ))) (coming : Option (List Told)) (file_failed door_failed : Type 0)
+    (result : ℕ) (old new : Option (List ℕ)) (out_failed : Type 0) (names names_now : List (List ℕ)) (places places_now : List Place)
+    (coming_now finished finished_now : Option (List Told)) : Type 0 where
+  pub ending : Ending
+  pub ends : EndsRun words files coming file_failed door_failed ending
+  pub asks_files : AsksFiles words names names_now ending
+  pub asks_places : AsksPlaces places places_now ending
+  pub lists : DoorListsAt coming coming_now finished finished_now ending
+  pub printed : Printed (text_of ending) (status_of ending) result old new out_failed ⊎ Printed (text_of Memory) 4 result old new out_failed

@@ -1,0 +1,107 @@
+// One run of the program.
+ghost use Rattle.std.specs.Prelude.{◌≡◌, ◌⊎◌};
+ghost use Rattle.pg_terms.specs.View.{formula};
+ghost use Rattle.pg_base.specs.Outside.{Rose};
+ghost use Rattle.proofgame.specs.Run.{Ends, PlaysAt, EndsText, EndsRun, AsksFiles, AsksPlaces, DoorListsAt, Runs};
+
+use crate::ending::{Ending, status_of, text_of};
+use crate::game::{GAME_LIMIT, Game, game_in};
+use crate::print::print;
+use crate::script::{script_at, script_in};
+use crate::words::game_name;
+use pg_base::{Door, Files, OutFault, Sink};
+use pg_tactic::{First, FirstScript, run_first};
+use std::alloc::Global;
+
+// What the script makes of the game.
+fn ending_of(game: Game, script: Option<FirstScript>) -> Ending<'static>
+    ensures { Ends (formula game.target.formula) script result }
+{
+    let Some(script) = script else {
+        return Ending::OtherScript;
+    };
+    match run_first(&game.target.formula, &script) {
+        First::Closed(_) => Ending::Won,
+        First::Open => Ending::Open(game.target),
+        First::SidesDiffer => Ending::SidesDiffer,
+    }
+}
+
+// The script of the door's connection decides.
+fn play_game<D: Door>(alloc: Global, game: Game, door: &mut D) -> Ending<'static>
+    ensures places { AsksPlaces (D.places door.old) (D.places door.new) result }
+    ensures lists { DoorListsAt (D.coming door.old) (D.coming door.new) (D.finished door.old) (D.finished door.new) result }
+    ensures plays { PlaysAt (formula game.target.formula) (D.coming door.old)
+        (Rose (D.faults door.old) (D.faults door.new) ⊎ Rose (D.given door.new).0 (D.ended door.new).0) result }
+{
+    match script_at(alloc, door) {
+        Ok(bytes) => match script_in(alloc, &bytes) {
+            Ok(script) => ending_of(game, script),
+            Err(_) => Ending::Memory,
+        },
+        Err(OutFault::Failed) => Ending::Door,
+        Err(OutFault::OutOfMemory) => Ending::Memory,
+    }
+}
+
+// The game's text decides, and then the script.
+fn play_text<D: Door>(alloc: Global, text: &[u8], door: &mut D) -> Ending<'static>
+    ensures places { AsksPlaces (D.places door.old) (D.places door.new) result }
+    ensures lists { DoorListsAt (D.coming door.old) (D.coming door.new) (D.finished door.old) (D.finished door.new) result }
+    ensures ends { EndsText text.now (D.coming door.old)
+        (Rose (D.faults door.old) (D.faults door.new) ⊎ Rose (D.given door.new).0 (D.ended door.new).0) result }
+{
+    match game_in(alloc, text) {
+        Ok(Some(game)) => play_game(alloc, game, door),
+        Ok(None) => Ending::OtherGame,
+        Err(_) => Ending::Memory,
+    }
+}
+
+// The words decide, then the file, and then its text.
+fn play<'a, F: Files, D: Door>(
+    alloc: Global,
+    words: &[&'a str],
+    files: &mut F,
+    door: &mut D,
+) -> Ending<'a>
+    ensures files { F.files files.new ≡ F.files files.old }
+    ensures names { AsksFiles words.now (F.asked files.old) (F.asked files.new) result }
+    ensures places { AsksPlaces (D.places door.old) (D.places door.new) result }
+    ensures lists { DoorListsAt (D.coming door.old) (D.coming door.new) (D.finished door.old) (D.finished door.new) result }
+    ensures ends { EndsRun words.now (F.files files.old) (D.coming door.old) (Rose (F.faults files.old) (F.faults files.new))
+        (Rose (D.faults door.old) (D.faults door.new) ⊎ Rose (D.given door.new).0 (D.ended door.new).0) result }
+{
+    let Some(name) = game_name(words) else {
+        return Ending::Words;
+    };
+    let text = match files.read(alloc, name, GAME_LIMIT) {
+        Ok(text) => text,
+        Err(OutFault::Failed) => return Ending::File(name),
+        Err(OutFault::OutOfMemory) => return Ending::Memory,
+    };
+    play_text(alloc, &text, door)
+}
+
+/// One run of the program. The words are `play` and the name of a game's file; the script is that of the door's first
+/// connection. It prints how the run ends and gives its status ("Statuses" in docs/COMMAND-LINE.md).
+pub fn run<F: Files, D: Door, O: Sink>(
+    alloc: Global,
+    words: &[&str],
+    files: &mut F,
+    door: &mut D,
+    out: &mut O,
+) -> u8
+    ensures files { F.files files.new ≡ F.files files.old }
+    ensures runs { Runs words.now (F.files files.old) (D.coming door.old) (Rose (F.faults files.old) (F.faults files.new))
+        (Rose (D.faults door.old) (D.faults door.new) ⊎ Rose (D.given door.new).0 (D.ended door.new).0)
+        result (O.written out.old) (O.written out.new) (Rose (O.write_faults out.old) (O.write_faults out.new))
+        (F.asked files.old) (F.asked files.new) (D.places door.old) (D.places door.new)
+        (D.coming door.new) (D.finished door.old) (D.finished door.new) }
+{
+    let ending = play(alloc, words, files, door);
+    match text_of(alloc, &ending) {
+        Ok(lines) => print(out, lines.as_bytes(), status_of(&ending)),
+        Err(_) => print(out, b"memory\n", 4),
+    }
+}
