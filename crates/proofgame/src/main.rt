@@ -8,10 +8,11 @@ mod print;
 mod run;
 mod script;
 mod symbol;
+#[cfg(test)]
+mod tests;
 mod words;
 
 use pg_base::{Pipe, RealFiles, StandardDoor, Writing};
-use run::run;
 use std::alloc::AllocError;
 use std::env;
 use std::process::ExitCode;
@@ -39,12 +40,12 @@ fn started(rt: &HostRuntime) -> Result<u8, AllocError> {
     let mut files = RealFiles::new(alloc, rt);
     let mut door = StandardDoor::new(alloc, Pipe::new(rt.stdin(), rt.stdout()));
     let mut out = Writing::new(rt.stdout());
-    Ok(run(alloc, &words, &mut files, &mut door, &mut out))
+    Ok(run::run(alloc, &words, &mut files, &mut door, &mut out))
 }
 
 fn main(rt: HostRuntime) -> ExitCode {
     match started(&rt) {
         Ok(status) => ExitCode::from(status),
-        Err(_) => ExitCode::from(4),
+        Err(_) => ExitCode::from(print::print(&mut Writing::new(rt.stdout()), b"memory\n", 4)),
     }
 }
