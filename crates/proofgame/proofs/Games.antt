@@ -104,7 +104,7 @@ found-game symbols parts e closes =
     let g : IsReadGame symbols parts = subst P e (game_at-sound symbols) in
     record { left = g.left; right = g.right; left_nesting = g.left_nesting; right_nesting = g.right_nesting; spelling = g.spelling; states = g.states; closes = closes }
 
-game_at-game : (symbols : List Symbol) (target : Fm) (s : Sample) → IsGame symbols target s → game_at symbols ≡ Some (record { target = target; sample = s })
+pub game_at-game : (symbols : List Symbol) (target : Fm) (s : Sample) → IsGame symbols target s → game_at symbols ≡ Some (record { target = target; sample = s })
 game_at-game symbols target s g =
     ap game_at g.spelling ∙ game_at-spelled g.left g.right s g.left_nesting g.right_nesting
     ∙ ap (λ a. Some (record { target = a; sample = s })) (flip g.states)

@@ -3,3 +3,4 @@ mod Games
 mod Scripts
 mod Shapes
 mod Taking
+mod Winning

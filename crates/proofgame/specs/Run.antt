@@ -1,5 +1,5 @@
 -- One run of the program: how it ends, what it asks for, and what it prints.
-use Rattle.std.specs.Prelude.{◌≡◌, ◌⊎◌, ℕ, true, false, List, [], ◌∷◌, Option, Some, None, ⊤}
+use Rattle.std.specs.Prelude.{◌≡◌, ◌⊎◌, ℕ, true, false, List, [], ◌∷◌, ◌++◌, Option, Some, None, IsSome, ⊤}
 use Rattle.std.specs.Borrow.{Bor}
 use Rattle.pg_logic.specs.Tree.{Fm}
 use Rattle.pg_logic.specs.Kernel.{is_reflexive, reflexive}
@@ -122,3 +122,37 @@ pub record Runs (words : List (Bor (List ℕ))) (files : Option (List (List ℕ 
   pub asks_places : AsksPlaces places places_now ending
   pub lists : DoorListsAt coming coming_now finished finished_now ending
   pub printed : Printed (text_of ending) (status_of ending) result old new out_failed ⊎ Printed (text_of Memory) 4 result old new out_failed
+
+-- ---- where `won` is printed
+
+-- the words name a game, the script of the door is `rfl`, and the level is won
+pub record Wins (words : List (Bor (List ℕ))) (files : Option (List (List ℕ × List ℕ))) (coming : Option (List Told)) : Type 0 where
+  pub name : List ℕ
+  pub named : game_name words ≡ Some name
+  pub text : List ℕ
+  pub gives : GivesFile files name 1048576 text
+  pub target : Fm
+  pub sample : Sample
+  pub game : IsGameText text target sample
+  pub script : List ℕ
+  pub gave : DoorGave coming script
+  pub is_rfl : script_of script ≡ Some Rfl
+  pub won : IsWon target
+
+-- `won` alone was printed, and the status is 0
+pub record PrintsWon (result : ℕ) (old new : Option (List ℕ)) : Type 0 where
+  pub before : List ℕ
+  pub was : old ≡ Some before
+  pub is : new ≡ Some (before ++ text_of Won)
+  pub status : result ≡ 0
+
+-- the door tells its first connection, and the connection what is left to read
+abbrev pub TellsScript : Option (List Told) → Type 0
+TellsScript None = ⊥
+TellsScript (Some []) = ⊤
+TellsScript (Some (conn ∷ rest)) = IsSome conn.left
+
+-- `won` is printed, or memory ran out, or the files or the door failed
+abbrev pub PrintsWonUnless : Type 0 → Type 0 → ℕ → Option (List ℕ) → Option (List ℕ) → Type 0 → Type 0
+PrintsWonUnless file_failed door_failed result old new out_failed =
+    Printed (text_of Won) 0 result old new out_failed ⊎ Printed (text_of Memory) 4 result old new out_failed ⊎ file_failed ⊎ door_failed

@@ -1,8 +1,8 @@
 // One run of the program.
-ghost use Rattle.std.specs.Prelude.{◌≡◌, ◌⊎◌};
+ghost use Rattle.std.specs.Prelude.{◌≡◌, ◌⊎◌, IsSome};
 ghost use Rattle.pg_terms.specs.View.{formula};
 ghost use Rattle.pg_base.specs.Outside.{Rose};
-ghost use Rattle.proofgame.specs.Run.{Ends, PlaysAt, EndsText, EndsRun, AsksFiles, AsksPlaces, DoorListsAt, Runs};
+ghost use Rattle.proofgame.specs.Run.{Ends, PlaysAt, EndsText, EndsRun, AsksFiles, AsksPlaces, DoorListsAt, Runs, Wins, PrintsWon, PrintsWonUnless, TellsScript};
 
 use crate::ending::{Ending, status_of, text_of};
 use crate::game::{GAME_LIMIT, Game, game_in};
@@ -98,6 +98,13 @@ pub fn run<F: Files, D: Door, O: Sink>(
         result (O.written out.old) (O.written out.new) (Rose (O.write_faults out.old) (O.write_faults out.new))
         (F.asked files.old) (F.asked files.new) (D.places door.old) (D.places door.new)
         (D.coming door.new) (D.finished door.old) (D.finished door.new) }
+
+    // `won` is printed exactly where the words, the game and the script are so, a counted fault or want of memory aside.
+    ensures won_only { PrintsWon result (O.written out.old) (O.written out.new) → Wins words.now (F.files files.old) (D.coming door.old) }
+    ensures won_where { Wins words.now (F.files files.old) (D.coming door.old) → IsSome (F.files files.old) → TellsScript (D.coming door.old)
+        → PrintsWonUnless (Rose (F.faults files.old) (F.faults files.new))
+            (Rose (D.faults door.old) (D.faults door.new) ⊎ Rose (D.given door.new).0 (D.ended door.new).0)
+            result (O.written out.old) (O.written out.new) (Rose (O.write_faults out.old) (O.write_faults out.new)) }
 {
     let ending = play(alloc, words, files, door);
     match text_of(alloc, &ending) {
