@@ -4,7 +4,7 @@ ghost use Rattle.std.specs.Prelude.{◌≡◌, ◌<◌, None, Some, Ok, [], leng
 ghost use Rattle.pg_base.specs.declared.outside.Place.TheVariants.{Standard};
 ghost use Rattle.pg_base.specs.Outside.{Asks, HasCause, Reads, Writes};
 ghost use Rattle.pg_base.specs.Calls.{CountsFailures, FailsWhere};
-ghost use Rattle.pg_base.specs.Standard.{IsPort};
+ghost use Rattle.pg_base.specs.Standard.{IsPort, counts_of};
 
 use crate::outside::{Door, Link, OutFault, Place, Sink, Source};
 use crate::schedule::failure;
@@ -198,7 +198,14 @@ impl<R: Read + Drop, W: Write + Drop> Door for StandardDoor<R, W> {
     ghost may_finish = { λ _. Unit {0} };
 
     // A port is no place of this door.
-    fn start(&mut self, place: Place) -> Result<(), OutFault> {
+    fn start(&mut self, place: Place) -> Result<(), OutFault>
+        ensures places { Asks self.old.places.items self.new.places.items result place }
+        ensures counts { (self.new.given ≡ self.old.given) × (self.new.ended ≡ self.old.ended) }
+        ensures cause { HasCause self.old.faults self.new.faults result }
+        ensures pipe { self.new.pipe ≡ self.old.pipe }
+        ensures fails { FailsWhere (IsPort place) result }
+        ensures failures { CountsFailures self.old.faults self.new.faults result }
+    {
         self.places.push(place)?;
         match place {
             Place::Standard => Ok(()),
@@ -206,14 +213,19 @@ impl<R: Read + Drop, W: Write + Drop> Door for StandardDoor<R, W> {
         }
     }
 
-    fn next(&mut self) -> Result<Option<Pipe<R, W>>, OutFault> {
-        match self.pipe.take() {
-            None => Ok(None),
-            Some(pipe) => {
-                self.given = (pipe.read_faults, pipe.write_faults);
-                Ok(Some(pipe))
-            }
+    fn next(&mut self) -> Result<Option<Pipe<R, W>>, OutFault>
+        ensures gives { result ≡ Ok self.old.pipe }
+        ensures taken { self.new.pipe ≡ None }
+        ensures given { self.new.given ≡ counts_of self.old.given self.old.pipe }
+        ensures ended { self.new.ended ≡ self.old.ended }
+        ensures places { self.new.places ≡ self.old.places }
+        ensures faults { self.new.faults ≡ self.old.faults }
+    {
+        let pipe = self.pipe.take();
+        if let Some(pipe) = &pipe {
+            self.given = (pipe.read_faults, pipe.write_faults);
         }
+        Ok(pipe)
     }
 
     fn finish(&mut self, conn: Pipe<R, W>) {
