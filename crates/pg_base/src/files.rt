@@ -1,7 +1,8 @@
 // The files of the system. What they hold isn't told. Each failure is counted.
-ghost use Rattle.std.specs.Prelude.{◌≡◌, None, [], IfOk, map, string_bytes};
+ghost use Rattle.std.specs.Prelude.{◌≡◌, ◌≤◌, ◌+◌, None, [], IfOk, map, string_bytes, vec_len};
 ghost use Rattle.std.specs.Io.KnownBytes.{Consumes};
-ghost use Rattle.pg_base.specs.Outside.{GivesFront};
+ghost use Rattle.pg_base.specs.Outside.{Asks, GivesFront, HasCause};
+ghost use Rattle.pg_base.specs.Calls.{CountsFailures};
 
 use crate::outside::{Files, OutFault};
 use crate::schedule::failure;
@@ -51,6 +52,7 @@ const CHUNK: usize = 4096;
 // The first `limit + 1` bytes of a reader, or all where it has fewer. No more are taken from it.
 fn front_of<R: Read>(alloc: Global, reader: &mut R, limit: usize) -> Result<Vec<u8>, OutFault>
     ensures front { IfOk result (λ front. GivesFront (R.remaining reader.old) limit front.items) }
+    ensures length { IfOk result (λ front. vec_len front ≤ limit + 1) }
     ensures taken { IfOk result (λ front. Consumes (R.remaining reader.old) (R.remaining reader.new) front.items) }
 {
     let mut front = Vec::new(alloc);
@@ -74,7 +76,9 @@ fn front_of_file<R: FileSystem>(
     rt: &R,
     name: &str,
     limit: usize,
-) -> Result<Vec<u8>, OutFault> {
+) -> Result<Vec<u8>, OutFault>
+    ensures { IfOk result (λ front. vec_len front ≤ limit + 1) }
+{
     let Ok(mut file) = fs::open(rt, name) else {
         return Err(OutFault::Failed);
     };
@@ -88,7 +92,13 @@ impl<R: FileSystem> Files for RealFiles<R> {
 
     ghost faults = { λ f. f.faults };
 
-    fn read(&mut self, alloc: Global, name: &str, limit: usize) -> Result<Vec<u8>, OutFault> {
+    // The place in the list is taken before the read, so that it isn't the name that wants memory.
+    fn read(&mut self, alloc: Global, name: &str, limit: usize) -> Result<Vec<u8>, OutFault>
+        ensures length { IfOk result (λ text. vec_len text ≤ limit + 1) }
+        ensures asked { Asks (map string_bytes self.old.asked.items) (map string_bytes self.new.asked.items) result name.now }
+        ensures cause { HasCause self.old.faults self.new.faults result }
+        ensures faults { CountsFailures self.old.faults self.new.faults result }
+    {
         let asked = String::from_str(alloc, name)?;
         self.asked.reserve(1)?;
         match front_of_file(alloc, &self.rt, name, limit) {
