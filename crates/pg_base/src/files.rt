@@ -114,3 +114,6 @@ impl<R: FileSystem> Files for RealFiles<R> {
         }
     }
 }
+
+#[cfg(test)]
+mod tests;

@@ -232,3 +232,6 @@ impl<R: Read + Drop, W: Write + Drop> Door for StandardDoor<R, W> {
         self.ended = (conn.read_faults, conn.write_faults);
     }
 }
+
+#[cfg(test)]
+mod tests;
