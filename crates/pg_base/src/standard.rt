@@ -2,7 +2,7 @@
 // std tells it, which is nothing for the streams of the system. Each failure is counted.
 ghost use Rattle.std.specs.Prelude.{◌≡◌, ◌<◌, None, Some, Ok, [], length};
 ghost use Rattle.pg_base.specs.declared.outside.Place.TheVariants.{Standard};
-ghost use Rattle.pg_base.specs.Outside.{Asks, HasCause, Reads, Writes};
+ghost use Rattle.pg_base.specs.Outside.{Asks, HasCause, KeepsRest, Reads, Writes};
 ghost use Rattle.pg_base.specs.Calls.{CountsFailures, FailsWhere};
 ghost use Rattle.pg_base.specs.Standard.{IsPort, counts_of};
 
@@ -10,6 +10,9 @@ use crate::outside::{Door, Link, OutFault, Place, Sink, Source};
 use crate::schedule::failure;
 use std::alloc::Global;
 use std::io::{Read, Write};
+
+// How many bytes a pipe reads at once.
+const CHUNK: usize = 4096;
 
 /// A reader and a writer as one connection.
 #[derive(Drop)]
@@ -55,15 +58,22 @@ impl<R: Read, W: Write> Source for Pipe<R, W> {
 
     ghost read_leaves = { λ old new. (new.output ≡ old.output) × (new.write_faults ≡ old.write_faults) };
 
+    // After an error a reader may have written to its slice, so it gets one of its own.
     fn read(&mut self, into: &mut [u8]) -> Result<usize, OutFault>
         requires { 0 < length into.old }
         ensures bytes { Reads (R.remaining self.old.input) (R.remaining self.new.input) result into.new }
+        ensures rest { KeepsRest into.old into.new result }
         ensures cause { HasCause self.old.read_faults self.new.read_faults result }
         ensures leaves { (self.new.output ≡ self.old.output) × (self.new.write_faults ≡ self.old.write_faults) }
         ensures counts { CountsFailures self.old.read_faults self.new.read_faults result }
     {
-        match self.input.read(into) {
-            Ok(count) => Ok(count),
+        let mut chunk = [0u8; CHUNK];
+        let room = into.len().min(CHUNK);
+        match self.input.read(&mut chunk[..room]) {
+            Ok(count) => {
+                into[..count].copy_from_slice(&chunk[..count]);
+                Ok(count)
+            }
             Err(_) => Err(failure(&mut self.read_faults)),
         }
     }
