@@ -57,7 +57,7 @@ not_letter c cs none = by_name (goes_on c cs) refl
     by_name false is = no_letter c cs is
 
 -- a name's front begins with a letter where the characters do
-front_letter : (cs front rest : List ℕ) → cs ≡ front ++ rest → name_length rest ≡ 0 → begins_with_letter front ≡ begins_with_letter cs
+pub front_letter : (cs front rest : List ℕ) → cs ≡ front ++ rest → name_length rest ≡ 0 → begins_with_letter front ≡ begins_with_letter cs
 front_letter [] [] rest whole stops = refl
 front_letter [] (f ∷ fs) rest whole stops = cc
 front_letter (d ∷ ds) [] rest whole stops = sym (not_letter d ds (ap name_length whole ∙ stops))
@@ -122,3 +122,69 @@ quoted false n (c ∷ cs) h = by_quote (λ m. quoted (c == character "\\") m cs)
         let m = more_some 1 n (text_length (c == character "\\") cs) h in
         let r = go m.less m.is in
         record { inside = c ∷ r.inside; rest = r.rest; whole = ap (λ x. c ∷ x) r.whole; count = omega (arith, r.count, m.sum); all = rw is (ap (more 1) r.all ∙ ap Some m.sum) }
+
+-- one turn inside a comment
+turn-opens : (depth c d : ℕ) (cs : List ℕ) → opens_comment c d ≡ true → comment_length depth (c ∷ d ∷ cs) ≡ more 2 (comment_length (depth + 1) cs)
+turn-opens depth c d cs opens = rw opens refl
+
+turn-ends : (depth c d : ℕ) (cs : List ℕ) → opens_comment c d ≡ false → closes_comment c d ≡ true → nat_le depth 1 ≡ true → comment_length depth (c ∷ d ∷ cs) ≡ Some 2
+turn-ends depth c d cs opens closes last = rw (opens, closes, last) refl
+
+turn-closes : (depth c d : ℕ) (cs : List ℕ) → opens_comment c d ≡ false → closes_comment c d ≡ true → nat_le depth 1 ≡ false → comment_length depth (c ∷ d ∷ cs) ≡ more 2 (comment_length (depth - 1) cs)
+turn-closes depth c d cs opens closes deep = rw (opens, closes, deep) refl
+
+turn-goes_on : (depth c d : ℕ) (cs : List ℕ) → opens_comment c d ≡ false → closes_comment c d ≡ false → comment_length depth (c ∷ d ∷ cs) ≡ more 1 (comment_length depth (d ∷ cs))
+turn-goes_on depth c d cs opens closes = rw (opens, closes) refl
+
+comment_turn : (depth n c d : ℕ) (cs : List ℕ)
+    → ((e m : ℕ) → comment_length e cs ≡ Some m → Reach (comment_length e) m cs)
+    → ((m : ℕ) → comment_length depth (d ∷ cs) ≡ Some m → Reach (comment_length depth) m (d ∷ cs))
+    → (a b e : Bool) → opens_comment c d ≡ a → closes_comment c d ≡ b → nat_le depth 1 ≡ e
+    → comment_length depth (c ∷ d ∷ cs) ≡ Some n → Reach (comment_length depth) n (c ∷ d ∷ cs)
+comment_turn depth n c d cs behind next true b e opens closes deep h =
+    let m = more_some 2 n (comment_length (depth + 1) cs) (sym (turn-opens depth c d cs opens) ∙ h) in
+    let r = behind (depth + 1) m.less m.is in
+    record {
+      front = c ∷ d ∷ r.front;
+      rest = r.rest;
+      whole = ap (λ x. c ∷ d ∷ x) r.whole;
+      count = omega (arith, r.count, m.sum);
+      all = turn-opens depth c d r.front opens ∙ ap (more 2) r.all ∙ ap Some m.sum;
+    }
+comment_turn depth n c d cs behind next false true true opens closes deep h =
+    let two : Some 2 ≡ Some n = sym (turn-ends depth c d cs opens closes deep) ∙ h in
+    record { front = c ∷ d ∷ []; rest = cs; whole = refl; count = cc; all = turn-ends depth c d [] opens closes deep ∙ two }
+comment_turn depth n c d cs behind next false true false opens closes deep h =
+    let m = more_some 2 n (comment_length (depth - 1) cs) (sym (turn-closes depth c d cs opens closes deep) ∙ h) in
+    let r = behind (depth - 1) m.less m.is in
+    record {
+      front = c ∷ d ∷ r.front;
+      rest = r.rest;
+      whole = ap (λ x. c ∷ d ∷ x) r.whole;
+      count = omega (arith, r.count, m.sum);
+      all = turn-closes depth c d r.front opens closes deep ∙ ap (more 2) r.all ∙ ap Some m.sum;
+    }
+comment_turn depth n c d cs behind next false false e opens closes deep h =
+    let m = more_some 1 n (comment_length depth (d ∷ cs)) (sym (turn-goes_on depth c d cs opens closes) ∙ h) in
+    let r = next m.less m.is in
+    by_front m.less r.front r.rest r.whole r.count r.all m.sum
+  where
+    by_front : (k : ℕ) (front rest : List ℕ) → d ∷ cs ≡ front ++ rest → length front ≡ k → comment_length depth front ≡ Some k → 1 + k ≡ n → Reach (comment_length depth) n (c ∷ d ∷ cs)
+    by_front k [] rest whole count all sum = cc
+    by_front k (f ∷ fs) rest whole count all sum =
+        let same : f ≡ d = cc in
+        let opens_too : opens_comment c f ≡ false = ap (opens_comment c) same ∙ opens in
+        let closes_too : closes_comment c f ≡ false = ap (closes_comment c) same ∙ closes in
+        record {
+          front = c ∷ f ∷ fs;
+          rest = rest;
+          whole = ap (λ x. c ∷ x) whole;
+          count = omega (arith, count, sum);
+          all = turn-goes_on depth c f fs opens_too closes_too ∙ ap (more 1) all ∙ ap Some sum;
+        }
+
+pub comment_reach : (depth n : ℕ) (cs : List ℕ) → comment_length depth cs ≡ Some n → Reach (comment_length depth) n cs
+comment_reach depth n [] h = cc
+comment_reach depth n (c ∷ []) h = cc
+comment_reach depth n (c ∷ d ∷ cs) h =
+    comment_turn depth n c d cs (λ e m. comment_reach e m cs) (λ m. comment_reach depth m (d ∷ cs)) _ _ _ refl refl refl h
