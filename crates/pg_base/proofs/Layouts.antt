@@ -37,7 +37,7 @@ same_position a b c d e f p q r = λ i. record { place = p i; column = q i; fres
 past-place : (c : ℕ) (before since : List ℕ) → past c (place_behind before since) ≡ place_behind (before ++ c ∷ []) (since ++ c ∷ [])
 past-place c before since =
     let bytes : length (encode_utf8_all before) + len_utf8 c ≡ length (encode_utf8_all (before ++ c ∷ [])) =
-        omega (arith, ap length (encodes-append before (c ∷ [])), length-append (encode_utf8_all before) (encode_utf8_all (c ∷ [])), length-append (encode_utf8 c) [], length-encode c) in
+    omega (arith, ap length (encodes-append before (c ∷ [])), length-append (encode_utf8_all before) (encode_utf8_all (c ∷ [])), length-append (encode_utf8 c) [], length-encode c) in
     let turned : reverse (before ++ c ∷ []) ≡ c ∷ reverse before = reverse-append before (c ∷ []) in
     let column = ap (cond (c == 10) 0) (add-one (line_length (reverse before))) ∙ sym (ap line_length turned) in
     same_position _ _ _ _ _ _ bytes column (sym (feed-append since c))
@@ -89,9 +89,9 @@ lay-word before since c cs kind n cut some behind all is = by_long _ refl
         let w : Word = record { kind = kind; text = token_text kind n (c ∷ cs); at = length (encode_utf8_all before); column = line_length (reverse before); first = has_line_feed since } in
         subst (λ (x : Lexed). LaidOut before since (c ∷ cs) x.words x.fault) (sym (is ∙ short_word _ kind _ _ h))
         (lay-same refl refl (sym cut.whole)
-          (token before since cut.text cut.rest w _ _
-            (record { token = cut.short short; text_is = cut.text_is; at_is = refl; column_is = refl; first_is = refl })
-            (lay-same joined f.0 f.1 behind)))
+        (token before since cut.text cut.rest w _ _
+        (record { token = cut.short short; text_is = cut.text_is; at_is = refl; column_is = refl; first_is = refl })
+        (lay-same joined f.0 f.1 behind)))
 
 lay-piece : (before since : List ℕ) (c : ℕ) (cs : List ℕ) (piece : Piece) → IsCut (length (encode_utf8_all before)) (c ∷ cs) piece → 0 < size piece
     → ((s : List ℕ) → Behind before s (size piece - 1) c cs)
@@ -126,8 +126,8 @@ lay zero before since (c ∷ cs) le =
     let rest : size (piece_at at (c ∷ cs)) - 1 ≤ length cs = omega (arith, sized.0, sized.1) in
     lay-same (sym (append-nil before)) (sym (append-nil since)) refl
     (lay-piece before since c cs (piece_at at (c ∷ cs)) (piece-cut at c cs) sized.1
-      (λ s. laid-on _ c before s cs (lay (size (piece_at at (c ∷ cs)) - 1) (before ++ c ∷ []) (s ++ c ∷ []) cs rest))
-      (lexed_from 0 (place_behind before since) (c ∷ cs)) refl)
+    (λ s. laid-on _ c before s cs (lay (size (piece_at at (c ∷ cs)) - 1) (before ++ c ∷ []) (s ++ c ∷ []) cs rest))
+    (lexed_from 0 (place_behind before since) (c ∷ cs)) refl)
 
 pub laid_out : (text : List ℕ) → LaidOut [] (10 ∷ []) (chars text) (lexed text).words (lexed text).fault
 laid_out text = lay 0 [] (10 ∷ []) (chars text) (omega arith)

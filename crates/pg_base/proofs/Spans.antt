@@ -103,9 +103,9 @@ spans source (token before since text rest w words fault is laid) whole scalars 
     let same : encode_utf8_all (written w.kind text) ≡ written w.kind w.text = sym (written-bytes w.kind text) ∙ ap (written w.kind) (sym is.text_is) in
     let spelled : chars w.text ≡ text = ap chars is.text_is ∙ chars-encodes text (written-scalars w.kind text (scalars-left (written w.kind text) rest scalars)) in
     let bytes : source ≡ encode_utf8_all before ++ (written w.kind w.text ++ encode_utf8_all rest) =
-        whole ∙ ap (λ x. encode_utf8_all before ++ x) (encodes-append (written w.kind text) rest ∙ ap (λ x. x ++ encode_utf8_all rest) same) in
+    whole ∙ ap (λ x. encode_utf8_all before ++ x) (encodes-append (written w.kind text) rest ∙ ap (λ x. x ++ encode_utf8_all rest) same) in
     let end : length (encode_utf8_all (before ++ written w.kind text)) ≡ token_end w =
-        omega (arith, ap length (encodes-append before (written w.kind text)), length-append (encode_utf8_all before) (encode_utf8_all (written w.kind text)), ap length same, is.at_is) in
+    omega (arith, ap length (encodes-append before (written w.kind text)), length-append (encode_utf8_all before) (encode_utf8_all (written w.kind text)), ap length same, is.at_is) in
     record {
       in_order = (omega (arith, is.at_is), subst (λ at. AreInOrder at (length source) words) end s.in_order);
       texts = (subst (λ x. IsToken w.kind x []) (sym spelled) (token-alone w.kind text rest is.token), s.texts);
