@@ -39,15 +39,15 @@ IsCut place cs (Gap n) = CutGap n cs
 IsCut place cs (Lexeme kind n) = CutToken kind n cs
 IsCut place cs (Bad fault) = IsFault fault place cs
 
-and_left : (a b : Bool) → (a && b) ≡ true → a ≡ true
+pub and_left : (a b : Bool) → (a && b) ≡ true → a ≡ true
 and_left true b h = refl
 and_left false b h = h
 
-and_right : (a b : Bool) → (a && b) ≡ true → b ≡ true
+pub and_right : (a b : Bool) → (a && b) ≡ true → b ≡ true
 and_right true b h = h
 and_right false b h = cc
 
-begins-split : (prefix cs : List ℕ) → begins_with prefix cs ≡ true → cs ≡ prefix ++ drop (length prefix) cs
+pub begins-split : (prefix cs : List ℕ) → begins_with prefix cs ≡ true → cs ≡ prefix ++ drop (length prefix) cs
 begins-split [] cs h = refl
 begins-split (p ∷ prefix) [] h = cc
 begins-split (p ∷ prefix) (c ∷ cs) h =

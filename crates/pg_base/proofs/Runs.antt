@@ -34,10 +34,10 @@ or_left_false true b h = h
 or_left_false false b h = refl
 
 -- whether a character goes on a name before these
-goes_on : ℕ → List ℕ → Bool
+pub goes_on : ℕ → List ℕ → Bool
 goes_on c cs = is_name_character c || ((c == character ".") && begins_with_letter cs)
 
-name_length-cons : (c : ℕ) (cs : List ℕ) → name_length (c ∷ cs) ≡ cond (goes_on c cs) (suc (name_length cs)) 0
+pub name_length-cons : (c : ℕ) (cs : List ℕ) → name_length (c ∷ cs) ≡ cond (goes_on c cs) (suc (name_length cs)) 0
 unfolding goes_on
 name_length-cons c cs = refl
 
@@ -63,7 +63,7 @@ front_letter [] (f ∷ fs) rest whole stops = cc
 front_letter (d ∷ ds) [] rest whole stops = sym (not_letter d ds (ap name_length whole ∙ stops))
 front_letter (d ∷ ds) (f ∷ fs) rest whole stops = let same : f ≡ d = cc in ap is_letter same
 
-same_goes_on : (c : ℕ) (cs ds : List ℕ) → begins_with_letter cs ≡ begins_with_letter ds → goes_on c cs ≡ goes_on c ds
+pub same_goes_on : (c : ℕ) (cs ds : List ℕ) → begins_with_letter cs ≡ begins_with_letter ds → goes_on c cs ≡ goes_on c ds
 unfolding goes_on
 same_goes_on c cs ds same = ap (λ b. is_name_character c || ((c == character ".") && b)) same
 
@@ -93,7 +93,7 @@ pub record More (k n : ℕ) (o : Option ℕ) : Type 0 where
   pub is : o ≡ Some less
   pub sum : k + less ≡ n
 
-more_some : (k n : ℕ) (o : Option ℕ) → more k o ≡ Some n → More k n o
+pub more_some : (k n : ℕ) (o : Option ℕ) → more k o ≡ Some n → More k n o
 more_some k n None h = cc
 more_some k n (Some i) h = record { less = i; is = refl; sum = cc }
 
@@ -124,16 +124,16 @@ quoted false n (c ∷ cs) h = by_quote (λ m. quoted (c == character "\\") m cs)
         record { inside = c ∷ r.inside; rest = r.rest; whole = ap (λ x. c ∷ x) r.whole; count = omega (arith, r.count, m.sum); all = rw is (ap (more 1) r.all ∙ ap Some m.sum) }
 
 -- one turn inside a comment
-turn-opens : (depth c d : ℕ) (cs : List ℕ) → opens_comment c d ≡ true → comment_length depth (c ∷ d ∷ cs) ≡ more 2 (comment_length (depth + 1) cs)
+pub turn-opens : (depth c d : ℕ) (cs : List ℕ) → opens_comment c d ≡ true → comment_length depth (c ∷ d ∷ cs) ≡ more 2 (comment_length (depth + 1) cs)
 turn-opens depth c d cs opens = rw opens refl
 
-turn-ends : (depth c d : ℕ) (cs : List ℕ) → opens_comment c d ≡ false → closes_comment c d ≡ true → nat_le depth 1 ≡ true → comment_length depth (c ∷ d ∷ cs) ≡ Some 2
+pub turn-ends : (depth c d : ℕ) (cs : List ℕ) → opens_comment c d ≡ false → closes_comment c d ≡ true → nat_le depth 1 ≡ true → comment_length depth (c ∷ d ∷ cs) ≡ Some 2
 turn-ends depth c d cs opens closes last = rw (opens, closes, last) refl
 
-turn-closes : (depth c d : ℕ) (cs : List ℕ) → opens_comment c d ≡ false → closes_comment c d ≡ true → nat_le depth 1 ≡ false → comment_length depth (c ∷ d ∷ cs) ≡ more 2 (comment_length (depth - 1) cs)
+pub turn-closes : (depth c d : ℕ) (cs : List ℕ) → opens_comment c d ≡ false → closes_comment c d ≡ true → nat_le depth 1 ≡ false → comment_length depth (c ∷ d ∷ cs) ≡ more 2 (comment_length (depth - 1) cs)
 turn-closes depth c d cs opens closes deep = rw (opens, closes, deep) refl
 
-turn-goes_on : (depth c d : ℕ) (cs : List ℕ) → opens_comment c d ≡ false → closes_comment c d ≡ false → comment_length depth (c ∷ d ∷ cs) ≡ more 1 (comment_length depth (d ∷ cs))
+pub turn-goes_on : (depth c d : ℕ) (cs : List ℕ) → opens_comment c d ≡ false → closes_comment c d ≡ false → comment_length depth (c ∷ d ∷ cs) ≡ more 1 (comment_length depth (d ∷ cs))
 turn-goes_on depth c d cs opens closes = rw (opens, closes) refl
 
 comment_turn : (depth n c d : ℕ) (cs : List ℕ)
