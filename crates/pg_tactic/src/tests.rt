@@ -5,7 +5,10 @@ use std::test::Fail;
 #[test]
 fn rfl_closes_two_equal_sides(rt: HostRuntime) -> Result<(), Fail> {
     let alloc = rt.alloc();
-    let equal = Formula::Eq(Term::succ(alloc, Term::Zero)?, Term::succ(alloc, Term::Zero)?);
+    let equal = Formula::Eq(
+        Term::succ(alloc, Term::Zero)?,
+        Term::succ(alloc, Term::Zero)?,
+    );
     assert!(rt; matches!(run_first(&equal, &FirstScript::Rfl), First::Closed(_)));
     assert!(rt; matches!(run_first(&equal, &FirstScript::Empty), First::Open));
     Ok(())
