@@ -3,6 +3,8 @@
 
 mod checking;
 mod proof;
+#[cfg(test)]
+mod tests;
 
 pub use checking::{Verdict, check_first};
 pub use proof::Proof;

@@ -1,6 +1,6 @@
 -- Numerals, and the standard model where nothing is declared.
-use Rattle.std.specs.Prelude.{ℕ, Bool, true, false, List, [], ◌≡◌, IsTrue, ◌&&◌}
-use Rattle.pg_logic.specs.Tree.{Tm, free, bound, nought, succ, app, Fm, falsum, eq, pred, and, or, imp, all, ex}
+use Rattle.std.specs.Prelude.{ℕ, Bool, true, false, [], ◌≡◌, IsTrue, ◌&&◌}
+use Rattle.pg_logic.specs.Tree.{Tm, nought, succ, Fm, eq}
 use Rattle.pg_logic.specs.Signature.{Signature}
 use Rattle.pg_logic.specs.Value.{value, functions_of}
 

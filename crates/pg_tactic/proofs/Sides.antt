@@ -1,5 +1,5 @@
 -- The sides of an equation on which rfl stops.
-use Rattle.std.proofs.Common.{◌≡◌, ℕ, Bool, true, false, IsTrue, sym, ◌∙◌}
+use Rattle.std.proofs.Common.{◌≡◌, ℕ, IsTrue, sym, ◌∙◌}
 use Rattle.std.proofs.lemmas.Bool.{true≢false}
 use Rattle.pg_logic.specs.Tree.{Fm}
 use Rattle.pg_logic.specs.Kernel.{unless, is_reflexive}

@@ -1,5 +1,5 @@
 -- How a script of at most one move runs on an equation.
-use Rattle.std.specs.Prelude.{◌≡◌, Bool, true, false, [], Option, None, if◌then◌else◌}
+use Rattle.std.specs.Prelude.{◌≡◌, [], None, if◌then◌else◌}
 use Rattle.pg_logic.specs.Tree.{Fm}
 use Rattle.pg_logic.specs.Kernel.{Pf, fault_of, is_reflexive}
 use Rattle.pg_logic.specs.Numeral.{no_declarations}

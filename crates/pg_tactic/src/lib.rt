@@ -2,5 +2,7 @@
 #![tactic(auto)]
 
 mod first;
+#[cfg(test)]
+mod tests;
 
 pub use first::{First, FirstScript, run_first};
