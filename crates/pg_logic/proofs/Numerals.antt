@@ -1,13 +1,7 @@
 -- Values of numerals, and worked rows of the definitions.
-<<<<<<< HEAD
-use Rattle.std.proofs.Common.{◌≡◌, ℕ, ◌+◌, List, [], ◌∷◌, Bool, true, false, IsTrue, refl, arith, ap, sym, ◌∙◌}
-use Rattle.std.proofs.lemmas.Bool.{true≢false, false≢true, and_parts}
-use Rattle.pg_logic.specs.Tree.{Tm, free, bound, nought, succ, app, Tms, none, arg, same, Fm, falsum, eq, pred, and, or, imp, all, ex}
-=======
-use Rattle.std.proofs.Common.{◌≡◌, ℕ, List, [], true, false, refl, arith, ap}
-use Rattle.std.proofs.lemmas.Bool.{false≢true}
+use Rattle.std.proofs.Common.{◌≡◌, ℕ, List, [], true, false, IsTrue, refl, arith, ap}
+use Rattle.std.proofs.lemmas.Bool.{false≢true, and_parts}
 use Rattle.pg_logic.specs.Tree.{Tm, free, bound, nought, succ, app, same, Fm, falsum, eq, pred, and, or, imp, all, ex}
->>>>>>> 237b2c829d242a7f6d1b3ce8c73f76e2809b60b3
 use Rattle.pg_logic.specs.Signature.{Signature}
 use Rattle.pg_logic.specs.Value.{Functions, value, functions_of}
 use Rattle.pg_logic.specs.Truth.{IsTrueOf}
