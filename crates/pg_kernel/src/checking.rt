@@ -25,9 +25,11 @@ pub enum Verdict {
 /// It takes no memory. It is `Refused` exactly where a node fails its rule: reflexivity, rule 17,
 /// asks that the goal is an equation whose two sides are the same term.
 pub fn check_first(proof: &Proof, goal: &Formula) -> Verdict
-    ensures exact { result ≡ verdict_of (fault_of no_declarations [] (proof_of proof.now) 0 [] (formula goal.now) 0) }
+    ensures exact { result ≡ verdict_of
+        (fault_of no_declarations [] (proof_of proof.now) 0 [] (formula goal.now) 0) }
     // what is accepted is true, whatever is declared and whatever values the free variables have
-    ensures sound { result ≡ Verdict.Accepted → (s : Signature) (free : List ℕ) → IsTrueOf s free (formula goal.now) }
+    ensures sound { result ≡ Verdict.Accepted →
+        (s : Signature) (free : List ℕ) → IsTrueOf s free (formula goal.now) }
 {
     match proof {
         Proof::Refl => check_refl(goal),
