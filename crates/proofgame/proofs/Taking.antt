@@ -2,7 +2,7 @@
 use Rattle.std.proofs.Common.{◌≡◌, ◌≤◌, ℕ, List, [], ◌++◌, length, take, drop, ◌+◌, Option, Some, None, sym as flip, ◌∙◌, ap, arith, append_assoc}
 use Rattle.std.proofs.lemmas.List.{take_at, take_all, append-nil, take-append-drop, drop-take, take-take}
 use Rattle.std.specs.Io.KnownBytes.{Consumes, Appends}
-use Rattle.pg_base.specs.Outside.{IsAllRead}
+use Rattle.pg_base.specs.Outside.{EndsAt}
 use Rattle.proofgame.specs.Script.{TookFront}
 
 pub consumes-more : (old mid new : Option (List ℕ)) (front piece : List ℕ) → Consumes old mid front → Consumes mid new piece → Consumes old new (front ++ piece)
@@ -11,11 +11,12 @@ consumes-more (Some xs) None new front piece h k = absurd h
 consumes-more (Some xs) (Some ys) None front piece h k = absurd k
 consumes-more (Some xs) (Some ys) (Some zs) front piece h k = h ∙ ap (λ r. front ++ r) k ∙ flip (append_assoc front piece zs)
 
-pub took-all : (old now : Option (List ℕ)) (front : List ℕ) → Consumes old now front → IsAllRead now → length front ≤ 16385 → TookFront old front
-took-all None now front h k le = tt
-took-all (Some xs) None front h k le = absurd h
-took-all (Some xs) (Some ys) front h k le =
-    let e : xs ≡ front = h ∙ ap (λ r. front ++ r) k ∙ append-nil front in
+-- no byte was left where the last read gave none
+pub took-all : (old now : Option (List ℕ)) (front : List ℕ) (n : ℕ) → Consumes old now front → EndsAt now n → n ≡ 0 → length front ≤ 16385 → TookFront old front
+took-all None now front n h k none le = tt
+took-all (Some xs) None front n h k none le = absurd h
+took-all (Some xs) (Some ys) front n h k none le =
+    let e : xs ≡ front = h ∙ ap (λ r. front ++ r) (k.0 none) ∙ append-nil front in
     flip (take_all 16385 front le) ∙ ap (take 16385) (flip e)
 
 pub took-front : (old now : Option (List ℕ)) (front : List ℕ) → Consumes old now front → length front ≡ 16385 → TookFront old front
