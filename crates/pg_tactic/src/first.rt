@@ -1,6 +1,5 @@
-ghost use Rattle.std.specs.Prelude.{◌≡◌, [], IsTrue};
-ghost use Rattle.pg_logic.specs.Kernel.{fault_of};
-ghost use Rattle.pg_logic.specs.Numeral.{is_numeral_equation, SidesHaveOneValue, no_declarations};
+ghost use Rattle.std.specs.Prelude.{◌≡◌, IsTrue};
+ghost use Rattle.pg_logic.specs.Numeral.{is_numeral_equation, SidesHaveOneValue};
 ghost use Rattle.pg_terms.specs.View.{formula};
 ghost use Rattle.pg_kernel.specs.View.{proof_of};
 ghost use Rattle.pg_tactic.specs.First.{first_run, IfClosed, IsAccepted};
