@@ -53,7 +53,8 @@ const CHUNK: usize = 4096;
 fn front_of<R: Read>(alloc: Global, reader: &mut R, limit: usize) -> Result<Vec<u8>, OutFault>
     ensures front { IfOk result (λ front. GivesFront (R.remaining reader.old) limit front.items) }
     ensures length { IfOk result (λ front. vec_len front ≤ limit + 1) }
-    ensures taken { IfOk result (λ front. Consumes (R.remaining reader.old) (R.remaining reader.new) front.items) }
+    ensures taken { IfOk result (λ front.
+        Consumes (R.remaining reader.old) (R.remaining reader.new) front.items) }
 {
     let mut front = Vec::new(alloc);
     let mut chunk = [0u8; CHUNK];
@@ -95,7 +96,8 @@ impl<R: FileSystem> Files for RealFiles<R> {
     // The place in the list is taken before the read, so that it isn't the name that wants memory.
     fn read(&mut self, alloc: Global, name: &str, limit: usize) -> Result<Vec<u8>, OutFault>
         ensures length { IfOk result (λ text. vec_len text ≤ limit + 1) }
-        ensures asked { Asks (map string_bytes self.old.asked.items) (map string_bytes self.new.asked.items) result name.now }
+        ensures asked { Asks (map string_bytes self.old.asked.items)
+            (map string_bytes self.new.asked.items) result name.now }
         ensures cause { HasCause self.old.faults self.new.faults result }
         ensures faults { CountsFailures self.old.faults self.new.faults result }
     {

@@ -26,7 +26,12 @@ pub struct Pipe<R, W> {
 impl<R: Read, W: Write> Pipe<R, W> {
     /// A connection that reads from `input` and writes to `output`. No call failed yet.
     pub fn new(input: R, output: W) -> Self
-        ensures { result ≡ record { input = input; output = output; read_faults = 0; write_faults = 0 } }
+        ensures { result ≡ record {
+          input = input;
+          output = output;
+          read_faults = 0;
+          write_faults = 0;
+        } }
     {
         Pipe {
             input,
@@ -56,15 +61,18 @@ impl<R: Read, W: Write> Source for Pipe<R, W> {
 
     ghost read_faults = { λ p. p.read_faults };
 
-    ghost read_leaves = { λ old new. (new.output ≡ old.output) × (new.write_faults ≡ old.write_faults) };
+    ghost read_leaves = { λ old new.
+        (new.output ≡ old.output) × (new.write_faults ≡ old.write_faults) };
 
     // After an error a reader may have written to its slice, so it gets one of its own.
     fn read(&mut self, into: &mut [u8]) -> Result<usize, OutFault>
         requires { 0 < length into.old }
-        ensures bytes { Reads (R.remaining self.old.input) (R.remaining self.new.input) result into.new }
+        ensures bytes { Reads (R.remaining self.old.input) (R.remaining self.new.input)
+            result into.new }
         ensures rest { KeepsRest into.old into.new result }
         ensures cause { HasCause self.old.read_faults self.new.read_faults result }
-        ensures leaves { (self.new.output ≡ self.old.output) × (self.new.write_faults ≡ self.old.write_faults) }
+        ensures leaves { (self.new.output ≡ self.old.output)
+            × (self.new.write_faults ≡ self.old.write_faults) }
         ensures counts { CountsFailures self.old.read_faults self.new.read_faults result }
     {
         let mut chunk = [0u8; CHUNK];
@@ -84,13 +92,16 @@ impl<R: Read, W: Write> Sink for Pipe<R, W> {
 
     ghost write_faults = { λ p. p.write_faults };
 
-    ghost write_leaves = { λ old new. (new.input ≡ old.input) × (new.read_faults ≡ old.read_faults) };
+    ghost write_leaves = { λ old new.
+        (new.input ≡ old.input) × (new.read_faults ≡ old.read_faults) };
 
     fn write(&mut self, piece: &[u8]) -> Result<usize, OutFault>
         requires { 0 < length piece.now }
-        ensures bytes { Writes (W.contents self.old.output) (W.contents self.new.output) result piece.now }
+        ensures bytes { Writes (W.contents self.old.output) (W.contents self.new.output)
+            result piece.now }
         ensures cause { HasCause self.old.write_faults self.new.write_faults result }
-        ensures leaves { (self.new.input ≡ self.old.input) × (self.new.read_faults ≡ self.old.read_faults) }
+        ensures leaves { (self.new.input ≡ self.old.input)
+            × (self.new.read_faults ≡ self.old.read_faults) }
         ensures counts { CountsFailures self.old.write_faults self.new.write_faults result }
     {
         match self.output.write(piece) {
@@ -136,7 +147,8 @@ impl<W: Write> Sink for Writing<W> {
 
     fn write(&mut self, piece: &[u8]) -> Result<usize, OutFault>
         requires { 0 < length piece.now }
-        ensures bytes { Writes (W.contents self.old.output) (W.contents self.new.output) result piece.now }
+        ensures bytes { Writes (W.contents self.old.output) (W.contents self.new.output)
+            result piece.now }
         ensures cause { HasCause self.old.faults self.new.faults result }
         ensures leaves { Unit {0} }
         ensures counts { CountsFailures self.old.faults self.new.faults result }

@@ -66,14 +66,32 @@ fn a_sink_keeps_what_is_written_but_by_failing_calls(rt: HostRuntime) -> Result<
     Ok(())
 }
 
+// Two files of one name, and an empty one between them.
+fn three_files(alloc: Global) -> Result<Vec<(String, Vec<u8>)>, AllocError> {
+    let mut files = Vec::new(alloc);
+    for (name, bytes) in [("a", b"first".as_slice()), ("b", b""), ("a", b"second")] {
+        files.push((String::from_str(alloc, name)?, bytes.to_vec(alloc)?))?;
+    }
+    Ok(files)
+}
+
+// The read gives these bytes, or fails where there are none.
+fn gives(
+    alloc: Global,
+    files: &mut MemoryFiles,
+    (name, limit): (&str, usize),
+    want: Option<&[u8]>,
+) -> bool {
+    match files.read(alloc, name, limit) {
+        Ok(front) => want == Some(front.as_slice()),
+        Err(fault) => want.is_none() && fault == OutFault::Failed,
+    }
+}
+
 #[test]
 fn files_give_their_front_by_name(rt: HostRuntime) -> Result<(), Fail> {
     let alloc = rt.alloc();
-    let mut held = Vec::new(alloc);
-    for (name, bytes) in [("a", b"first".as_slice()), ("b", b""), ("a", b"second")] {
-        held.push((String::from_str(alloc, name)?, bytes.to_vec(alloc)?))?;
-    }
-    let mut files = MemoryFiles::new(alloc, held, vec![in alloc; 5]?);
+    let mut files = MemoryFiles::new(alloc, three_files(alloc)?, vec![in alloc; 5]?);
     for (name, limit, want) in [
         ("a", 9, Some(b"first".as_slice())),
         ("a", 3, Some(b"firs".as_slice())),
@@ -83,19 +101,19 @@ fn files_give_their_front_by_name(rt: HostRuntime) -> Result<(), Fail> {
         ("a", 9, None),
         ("a", 4, Some(b"first".as_slice())),
     ] {
-        match files.read(alloc, name, limit) {
-            Ok(front) => assert_eq!(rt; Some(front.as_slice()), want, "{name} up to {limit}"),
-            Err(fault) => {
-                assert_eq!(rt; fault, OutFault::Failed);
-                assert_eq!(rt; want, None, "{name} up to {limit}");
-            }
-        }
+        assert!(rt;
+            gives(alloc, &mut files, (name, limit), want),
+            "{name} up to {limit}"
+        );
     }
     assert_eq!(rt; files.faults(), 2);
-    let mut asked = String::new(alloc);
-    for name in files.asked() {
-        asked.push_str(name)?;
+    assert_eq!(rt; files.asked().len(), 7);
+    for (asked, want) in files
+        .asked()
+        .iter()
+        .zip(["a", "a", "a", "b", "c", "a", "a"])
+    {
+        assert_eq!(rt; asked.as_str(), want);
     }
-    assert_eq!(rt; asked.as_str(), "aaabcaa");
     Ok(())
 }
