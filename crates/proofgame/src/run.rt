@@ -103,8 +103,8 @@ pub fn run<F: Files, D: Door, O: Sink>(
     ensures won_only { PrintsWon result (O.written out.old) (O.written out.new) → Wins words.now (F.files files.old) (D.coming door.old) }
     ensures won_where { Wins words.now (F.files files.old) (D.coming door.old) → IsSome (F.files files.old) → TellsScript (D.coming door.old)
         → PrintsWonUnless (Rose (F.faults files.old) (F.faults files.new))
-            (Rose (D.faults door.old) (D.faults door.new) ⊎ Rose (D.given door.new).0 (D.ended door.new).0)
-            result (O.written out.old) (O.written out.new) (Rose (O.write_faults out.old) (O.write_faults out.new)) }
+        (Rose (D.faults door.old) (D.faults door.new) ⊎ Rose (D.given door.new).0 (D.ended door.new).0)
+        result (O.written out.old) (O.written out.new) (Rose (O.write_faults out.old) (O.write_faults out.new)) }
 {
     let ending = play(alloc, words, files, door);
     match text_of(alloc, &ending) {

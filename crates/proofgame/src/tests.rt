@@ -6,6 +6,7 @@ use std::test::Fail;
 
 const ONE_IS_ONE: &str =
     "World \"W\"\nLevel 1\nStatement : succ 0 = succ 0 := by rfl\nNewTactic rfl\n";
+
 const ONE_IS_ZERO: &str =
     "World \"W\"\nLevel 1\nStatement : succ 0 = 0 := by sorry\nNewTactic rfl\n";
 
@@ -34,11 +35,7 @@ fn ran(
     failing: Failing<'_>,
 ) -> Result<(u8, Vec<u8>), AllocError> {
     let file = (String::from_str(alloc, "GAME")?, game.to_vec(alloc)?);
-    let mut files = MemoryFiles::new(
-        alloc,
-        vec![in alloc; file]?,
-        failing.files.to_vec(alloc)?,
-    );
+    let mut files = MemoryFiles::new(alloc, vec![in alloc; file]?, failing.files.to_vec(alloc)?);
     let link = MemoryLink::new(alloc, script.to_vec(alloc)?, 2, failing.link.to_vec(alloc)?);
     let mut door = MemoryDoor::new(alloc, vec![in alloc; link]?, failing.door.to_vec(alloc)?)?;
     let mut out = MemorySink::new(alloc, failing.out.to_vec(alloc)?);
@@ -81,13 +78,18 @@ fn nested(alloc: Global, depth: usize) -> Result<String, AllocError> {
 #[test]
 fn a_script_is_won_open_or_stopped(rt: HostRuntime) -> Result<(), Fail> {
     let alloc = rt.alloc();
-    let two = "World \"A_1\"\nLevel 1\nStatement : succ (succ 0) = (succ (succ (0))) := by sorry\nNewTactic rfl";
+    let two =
+        "World \"A_1\"\nLevel 1\nStatement : succ (succ 0) = (succ (succ (0))) := by sorry\nNewTactic rfl";
     for (game, script, lines) in [
         (ONE_IS_ONE, "rfl", "won\n"),
         (ONE_IS_ZERO, "rfl", "stopped 0 0 S6\n"),
         (ONE_IS_ZERO, "foo", "stopped 0 0 later\n"),
         (ONE_IS_ONE, "", "open 1\n⊢ succ 0 = succ 0\n"),
-        (two, " -- a comment\n", "open 1\n⊢ succ (succ 0) = succ (succ 0)\n"),
+        (
+            two,
+            " -- a comment\n",
+            "open 1\n⊢ succ (succ 0) = succ (succ 0)\n",
+        ),
         (two, "-- a comment\n  rfl /- and another -/\n", "won\n"),
         (ONE_IS_ONE, "rfl rfl", "stopped 0 0 later\n"),
         (ONE_IS_ONE, "rfl $", "stopped 0 0 later\n"),
@@ -159,7 +161,11 @@ fn a_game_is_taken_up_to_its_limits(rt: HostRuntime) -> Result<(), Fail> {
     ] {
         let (found, written) = ran(alloc, &["play", "GAME"], game, b"rfl", NONE_FAILING)?;
         assert_eq!(rt; found, status, "{} bytes", game.len());
-        assert!(rt; written.as_slice() == lines.as_bytes(), "{} bytes", game.len());
+        assert!(rt;
+            written.as_slice() == lines.as_bytes(),
+            "{} bytes",
+            game.len()
+        );
     }
     Ok(())
 }
@@ -194,17 +200,80 @@ fn each_object_fails_in_turn(rt: HostRuntime) -> Result<(), Fail> {
     let second: &[u64] = &[1];
     let third: &[u64] = &[2];
     for (failing, status, lines) in [
-        (Failing { files: first, ..none }, 3, "file GAME\n"),
-        (Failing { files: second, ..none }, 0, "won\n"),
-        (Failing { door: first, ..none }, 8, "door\n"),
-        (Failing { door: second, ..none }, 8, "door\n"),
-        (Failing { door: third, ..none }, 0, "won\n"),
-        (Failing { link: first, ..none }, 8, "door\n"),
-        (Failing { link: second, ..none }, 8, "door\n"),
-        (Failing { link: third, ..none }, 8, "door\n"),
+        (
+            Failing {
+                files: first,
+                ..none
+            },
+            3,
+            "file GAME\n",
+        ),
+        (
+            Failing {
+                files: second,
+                ..none
+            },
+            0,
+            "won\n",
+        ),
+        (
+            Failing {
+                door: first,
+                ..none
+            },
+            8,
+            "door\n",
+        ),
+        (
+            Failing {
+                door: second,
+                ..none
+            },
+            8,
+            "door\n",
+        ),
+        (
+            Failing {
+                door: third,
+                ..none
+            },
+            0,
+            "won\n",
+        ),
+        (
+            Failing {
+                link: first,
+                ..none
+            },
+            8,
+            "door\n",
+        ),
+        (
+            Failing {
+                link: second,
+                ..none
+            },
+            8,
+            "door\n",
+        ),
+        (
+            Failing {
+                link: third,
+                ..none
+            },
+            8,
+            "door\n",
+        ),
         (Failing { link: &[3], ..none }, 0, "won\n"),
         (Failing { out: first, ..none }, 5, ""),
-        (Failing { out: second, ..none }, 0, "won\n"),
+        (
+            Failing {
+                out: second,
+                ..none
+            },
+            0,
+            "won\n",
+        ),
     ] {
         let game = ONE_IS_ONE.as_bytes();
         let (found, written) = ran(alloc, &["play", "GAME"], game, b"rfl", failing)?;
