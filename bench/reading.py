@@ -10,7 +10,7 @@ import tempfile
 import time
 
 TOP = os.path.dirname(os.path.dirname(os.path.abspath(__file__)))
-PROGRAM = os.path.join(TOP, "proofgame")
+PROGRAM = os.path.join(TOP, "crates/proofgame/out/proofgame")
 GAME = 'World "W"\nLevel 1\nStatement : succ 0 = succ 0 := by rfl\nNewTactic rfl\n'
 RUNS = 7
 
@@ -27,7 +27,7 @@ KINDS = {
     "blanks": lambda size: filled("  \n", size),
     "comments": lambda size: filled("-- a line of words that is passed over\n", size),
     "nested comments": lambda size: filled("/- a /- b -/ c -/\n", size),
-    "one comment": lambda size: "/-" + filled("x", size - 4).replace(GAME, "") + "-/" + GAME,
+    "one comment": lambda size: "/-" + filled("x", size - 5).replace(GAME, "") + "-/\n" + GAME,
     "names (refused)": lambda size: filled("zero add succ ", size),
     "signs (refused)": lambda size: filled("∀ ∃ → ", size),
     "one long name (refused)": lambda size: filled("x", size),
