@@ -80,6 +80,7 @@ two-fails c d sign test is none = by_test _ refl
         let first : c ≡ a = grind (arith, nat_tests, left) in
         let second : d ≡ b = grind (arith, nat_tests, right) in
         cc
+
     by_test : (b : Bool) → test (c, d) ≡ b → test (c, d) ≡ false
     by_test false fails = fails
     by_test true passes =
@@ -111,7 +112,7 @@ name-front place c cs rest o name stops is =
     let letter : is_letter c ≡ true = name.0 in
     let no_prefix : begins_with_prefix_name (c ∷ (cs ++ rest)) ≡ false = prefix-extends (c ∷ cs) rest name stops in
     let piece : piece_at place (c ∷ (cs ++ rest)) ≡ name_piece (c ∷ (cs ++ rest)) (name_length (cs ++ rest) + 1) =
-        rw (letter-no_blank c letter, no_prefix, differs is_letter 45 c refl letter, differs is_letter 47 c refl letter, letter) refl in
+    rw (letter-no_blank c letter, no_prefix, differs is_letter 45 c refl letter, differs is_letter 47 c refl letter, letter) refl in
     let one : name_length (c ∷ (cs ++ rest)) ≡ suc (name_length (cs ++ rest)) = rw letter refl in
     let count : name_length (cs ++ rest) + 1 ≡ suc (length cs) = omega (arith, one, name-extends (c ∷ cs) rest name.1 stops) in
     piece ∙ ap (name_piece (c ∷ (cs ++ rest))) count
@@ -125,7 +126,7 @@ number-front place c cs rest all stops = by_digit _ refl
     by_digit false is = let none : number_length (c ∷ cs) ≡ 0 = rw is refl in absurd (omega (arith, none, all))
     by_digit true is =
         let piece : piece_at place (c ∷ (cs ++ rest)) ≡ Lexeme Number (number_length (cs ++ rest) + 1) =
-            rw (digit-no_blank c is, differs is_ascii_digit 77 c refl is, differs is_ascii_digit 45 c refl is, differs is_ascii_digit 47 c refl is, digit-no_letter c is, is) refl in
+        rw (digit-no_blank c is, differs is_ascii_digit 77 c refl is, differs is_ascii_digit 45 c refl is, differs is_ascii_digit 47 c refl is, digit-no_letter c is, is) refl in
         let one : number_length (c ∷ (cs ++ rest)) ≡ suc (number_length (cs ++ rest)) = rw is refl in
         let count : number_length (cs ++ rest) + 1 ≡ suc (length cs) = omega (arith, one, number-extends (c ∷ cs) rest all stops) in
         piece ∙ ap (Lexeme Number) count
@@ -157,7 +158,7 @@ one-front place c rest sign is alone =
     let no_minus : (c == 45) ≡ false = one-fails c sign (λ x. x == 45) is refl in
     let no_slash : (c == 47) ≡ false = one-fails c sign (λ x. x == 47) is refl in
     to-signs place c rest (one-fails c sign is_blank is refl) (rw no_m refl) (rw no_minus refl) (rw no_slash refl)
-      (one-fails c sign is_letter is refl) (one-fails c sign is_ascii_digit is refl) (one-fails c sign (λ x. x == character "\"") is refl)
+    (one-fails c sign is_letter is refl) (one-fails c sign is_ascii_digit is refl) (one-fails c sign (λ x. x == character "\"") is refl)
     ∙ one-piece place c rest alone
     ∙ ap (λ o. unwrap_or (option_map (λ s. Lexeme (SignToken s) 1) o) (Bad (BadByte place))) is
 
@@ -165,8 +166,8 @@ two-front : (place c d : ℕ) (rest : List ℕ) (sign : Sign) → sign_of_two c 
 two-front place c d rest sign is =
     let no_m : (c == 77) ≡ false = two-fails c d sign (λ x. x.0 == 77) is refl in
     to-signs place c (d ∷ rest) (two-fails c d sign (λ x. is_blank x.0) is refl) (rw no_m refl)
-      (two-fails c d sign (λ x. begins_with (codes "--") (x.0 ∷ x.1 ∷ [])) is refl) (two-fails c d sign (λ x. begins_with (codes "/-") (x.0 ∷ x.1 ∷ [])) is refl)
-      (two-fails c d sign (λ x. is_letter x.0) is refl) (two-fails c d sign (λ x. is_ascii_digit x.0) is refl) (two-fails c d sign (λ x. x.0 == character "\"") is refl)
+    (two-fails c d sign (λ x. begins_with (codes "--") (x.0 ∷ x.1 ∷ [])) is refl) (two-fails c d sign (λ x. begins_with (codes "/-") (x.0 ∷ x.1 ∷ [])) is refl)
+    (two-fails c d sign (λ x. is_letter x.0) is refl) (two-fails c d sign (λ x. is_ascii_digit x.0) is refl) (two-fails c d sign (λ x. x.0 == character "\"") is refl)
     ∙ ap (λ o. unwrap_or (option_map (λ s. Lexeme (SignToken s) 2) o) (unwrap_or (option_map (λ s. Lexeme (SignToken s) 1) (sign_of_one c)) (Bad (BadByte place)))) is
 
 short-front : (place : ℕ) (cs rest : List ℕ) (sign : Sign) → IsShortSign sign cs rest → piece_at place (cs ++ rest) ≡ Lexeme (SignToken sign) (length cs)
@@ -202,3 +203,57 @@ written-text Text text rest =
     ap (λ x. encode_utf8_all (take (length (written Text text) - 2) x)) (append_assoc text (character "\"" ∷ []) rest)
     ∙ ap encode_utf8_all (take_at text (character "\"" ∷ rest) (length (written Text text) - 2) count)
 written-text (SignToken sign) text rest = ap encode_utf8_all (take_at text rest (length text) refl)
+
+-- ---- faults
+
+pub bad-byte : (place c : ℕ) (cs : List ℕ) → BeginsNothing c cs → piece_at place (c ∷ cs) ≡ Bad (BadByte place)
+bad-byte place c cs none =
+    let no_m : (c == 77) ≡ false = by_m _ refl in
+    to-signs place c cs none.no_blank (rw no_m refl) none.no_line_comment none.no_block_comment none.no_letter none.no_digit none.no_quote
+    ∙ one-piece place c cs none.no_long_sign
+    ∙ ap (λ o. unwrap_or (option_map (λ s. Lexeme (SignToken s) 1) o) (Bad (BadByte place))) none.no_sign
+  where
+    by_m : (b : Bool) → (c == 77) ≡ b → (c == 77) ≡ false
+    by_m false is = is
+    by_m true is =
+        let same : c ≡ 77 = grind (arith, nat_tests, is) in
+        let letter : is_letter c ≡ true = ap is_letter same in
+        let other : is_letter c ≡ false = none.no_letter in
+        cc
+
+-- the name or number that is too long
+pub record Long (place : ℕ) (cs : List ℕ) : Type 0 where
+  pub kind : TokenKind
+  pub count : ℕ
+  pub text : List ℕ
+  pub piece : piece_at place cs ≡ Lexeme kind count
+  pub some : 0 < count
+  pub within : count ≤ length cs
+  pub text_is : text ≡ token_text kind count cs
+  pub long : is_long kind text ≡ true
+
+pub long-piece : (place : ℕ) (cs : List ℕ) → BeginsLong cs → Long place cs
+long-piece place cs b = by_kind b.text b.rest b.whole b.kind b.long
+  where
+    by_kind : (text rest : List ℕ) → cs ≡ text ++ rest → (IsName text × (name_length rest ≡ 0)) ⊎ (IsNumber text × (number_length rest ≡ 0)) → 48 < length (encode_utf8_all text) → Long place cs
+    by_kind [] rest whole kind long = absurd (omega (arith, long))
+    by_kind (c ∷ text) rest whole (inl h) long = record {
+      kind = Name;
+      count = suc (length text);
+      text = encode_utf8_all (c ∷ text);
+      piece = ap (piece_at place) whole ∙ name-front place c text rest None h.0 h.1 (long-no_sign (encode_utf8_all (c ∷ text)) long);
+      some = omega arith;
+      within = omega (arith, ap length whole, length-append (c ∷ text) rest);
+      text_is = ap encode_utf8_all (sym (ap (take (suc (length text))) whole ∙ take_at (c ∷ text) rest (suc (length text)) refl));
+      long = grind (arith, nat_tests, long);
+    }
+    by_kind (c ∷ text) rest whole (inr h) long = record {
+      kind = Number;
+      count = suc (length text);
+      text = encode_utf8_all (c ∷ text);
+      piece = ap (piece_at place) whole ∙ number-front place c text rest h.0.1 h.1;
+      some = omega arith;
+      within = omega (arith, ap length whole, length-append (c ∷ text) rest);
+      text_is = ap encode_utf8_all (sym (ap (take (suc (length text))) whole ∙ take_at (c ∷ text) rest (suc (length text)) refl));
+      long = grind (arith, nat_tests, long);
+    }
