@@ -12,10 +12,10 @@ use Rattle.pg_base.specs.declared.token.Piece.TheVariants.{Gap, Lexeme, Bad}
 use Rattle.pg_base.specs.Characters.{character, is_letter, begins_with, begins_with_letter, begins_with_prefix_name, line_length, comment_length, text_length}
 use Rattle.pg_base.specs.Tokens.{Position, Lexed, Word, past, piece_at, token_text, is_long, with_piece, with_word, lexed_from, lexed, broken}
 use Rattle.pg_base.specs.Layout.{IsToken, written, IsFault, has_line_feed, IsWord, LaidOut, ends, breaks, gap, token, BeginsNothing, BeginsLong, IsAlone}
-use Rattle.pg_base.specs.Spans.{IsMadeOf}
+use Rattle.pg_base.specs.Spans.{IsMadeOf, IsMadeOnlyOf}
 use Rattle.pg_base.proofs.Pieces.{begins-split}
 use Rattle.pg_base.proofs.Lexing.{lexed_from-gap, lexed_from-token, lexed_from-bad, lexed_from-long}
-use Rattle.pg_base.proofs.Layouts.{place_behind, past-place}
+use Rattle.pg_base.proofs.Layouts.{place_behind, past-place, laid_out}
 use Rattle.pg_base.proofs.Fronts.{piece-gap, Front, token-front, written-text, bad-byte, long-piece}
 
 -- passing over a front
@@ -65,5 +65,10 @@ lexed-laid (token before since text rest w words fault is laid) =
     (same_word (record { kind = w.kind; text = encode_utf8_all text; at = at; column = line_length (reverse before); first = has_line_feed since }) w refl (sym is.text_is) (sym is.at_is) (sym is.column_is) (sym is.first_is))
 
 -- a text is made of the definition's tokens and fault, and of no others
-pub made_of_lexed : (source : List ℕ) (words : List Word) (fault : Option LexFault) → IsMadeOf source words fault → lexed source ≡ record { words = words; fault = fault }
-made_of_lexed source words fault made = lexed-laid made
+pub made_only_of : (source : List ℕ) → IsMadeOnlyOf source (lexed source).words (lexed source).fault
+made_only_of source = record {
+  made = laid_out source;
+  only = λ others other made.
+    let same : lexed source ≡ record { words = others; fault = other } = lexed-laid made in
+    (ap (λ (x : Lexed). x.words) (sym same), ap (λ (x : Lexed). x.fault) (sym same));
+}

@@ -37,3 +37,8 @@ pub record AreTokensOf (source : List ℕ) (words : List Word) : Type 0 where
 -- text one has ended.
 abbrev pub IsMadeOf : (source : List ℕ) → List Word → Option LexFault → Type 0
 IsMadeOf source words fault = LaidOut [] (10 ∷ []) (chars source) words fault
+
+-- The same, and of no other tokens and no other fault.
+pub record IsMadeOnlyOf (source : List ℕ) (words : List Word) (fault : Option LexFault) : Type 0 where
+  pub made : IsMadeOf source words fault
+  pub only : (others : List Word) (other : Option LexFault) → IsMadeOf source others other → (others ≡ words) × (other ≡ fault)
