@@ -1,7 +1,7 @@
 -- A gap, a token or a fault of the layout is what stands at the front of the characters.
-use Rattle.std.proofs.Common.{◌≡◌, ℕ, zero, suc, ◌+◌, ◌-◌, ◌<◌, ◌≤◌, Bool, true, false, cond, ◌&&◌, ◌||◌, not, nat_le, nat_lt, List, [], ◌∷◌, ◌++◌, length, take, drop, Option, Some, None, option_map, unwrap_or, codes, ◌==◌, ◌⊎◌, inl, inr, sym, ◌∙◌, ap, refl, subst, arith, append_assoc, length-append}
+use Rattle.std.proofs.Common.{◌≡◌, ℕ, suc, ◌+◌, ◌-◌, ◌<◌, ◌≤◌, Bool, true, false, ◌&&◌, not, nat_le, nat_lt, List, [], ◌∷◌, ◌++◌, length, take, Option, Some, None, option_map, unwrap_or, codes, ◌==◌, ◌⊎◌, inl, inr, sym, ◌∙◌, ap, refl, subst, arith, append_assoc, length-append}
 use Rattle.std.proofs.lemmas.Bool.Decides.{nat_tests}
-use Rattle.std.proofs.lemmas.List.{take_at, drop_at}
+use Rattle.std.proofs.lemmas.List.{take_at}
 use Rattle.std.proofs.lemmas.Slice.Eq.{bytes_eq-Decides}
 use Rattle.std.specs.Char.{is_ascii_digit}
 use Rattle.std.specs.List.{list_all}
@@ -9,15 +9,13 @@ use Rattle.std.specs.Str.{encode_utf8_all, bytes_eq}
 use Rattle.pg_base.specs.declared.token.Sign.{Sign}
 use Rattle.pg_base.specs.declared.token.TokenKind.{TokenKind}
 use Rattle.pg_base.specs.declared.token.TokenKind.TheVariants.{Name, Number, Text, Sign as SignToken}
-use Rattle.pg_base.specs.declared.token.LexFault.{LexFault}
-use Rattle.pg_base.specs.declared.token.LexFault.TheVariants.{BadByte, OpenString, OpenComment, LongName}
-use Rattle.pg_base.specs.declared.token.Piece.{Piece}
+use Rattle.pg_base.specs.declared.token.LexFault.TheVariants.{BadByte, OpenString, OpenComment}
 use Rattle.pg_base.specs.declared.token.Piece.TheVariants.{Gap, Lexeme, Bad}
-use Rattle.pg_base.specs.Characters.{character, is_letter, is_blank, begins_with_letter, begins_with, begins_with_prefix_name, name_length, number_length, line_length, comment_length, text_length}
+use Rattle.pg_base.specs.Characters.{character, is_letter, is_blank, begins_with, begins_with_prefix_name, name_length, number_length, line_length}
 use Rattle.pg_base.specs.Signs.{sign_in, one_character_signs, two_character_signs, sign_names, sign_of_one, sign_of_two, sign_of_name}
-use Rattle.pg_base.specs.Tokens.{piece_at, sign_piece, name_kind, name_piece, comment_piece, token_text, is_long}
-use Rattle.pg_base.specs.Layout.{IsGap, blank, prefix_name, line_comment, block_comment, IsName, IsNumber, IsQuoted, IsAlone, IsShortSign, IsToken, written, BeginsNothing, BeginsLong, IsFault}
-use Rattle.pg_base.proofs.Pieces.{and_left, and_right, begins-split}
+use Rattle.pg_base.specs.Tokens.{piece_at, sign_piece, name_kind, name_piece, token_text, is_long}
+use Rattle.pg_base.specs.Layout.{IsGap, blank, prefix_name, line_comment, block_comment, IsName, IsNumber, IsQuoted, IsAlone, IsShortSign, IsToken, written, BeginsNothing, BeginsLong}
+use Rattle.pg_base.proofs.Pieces.{and_left, and_right}
 use Rattle.pg_base.proofs.Extends.{line-extends, number-extends, name-extends, text-extends, comment-extends, prefix-extends}
 
 -- ---- characters that differ

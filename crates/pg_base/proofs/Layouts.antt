@@ -1,5 +1,5 @@
 -- A text is laid out as the tokens that the lexer's definition gives.
-use Rattle.std.proofs.Common.{◌≡◌, ℕ, zero, suc, ◌+◌, ◌-◌, ◌<◌, ◌≤◌, Bool, true, false, cond, ◌||◌, List, [], ◌∷◌, ◌++◌, length, take, drop, reverse, Option, Some, None, ◌==◌, sym, ◌∙◌, ap, refl, subst, arith, append_assoc, append-nil, length-append, add-one, encode_utf8}
+use Rattle.std.proofs.Common.{◌≡◌, ℕ, zero, suc, ◌+◌, ◌-◌, ◌<◌, ◌≤◌, Bool, true, false, cond, ◌||◌, List, [], ◌∷◌, ◌++◌, length, take, drop, reverse, Option, ◌==◌, sym, ◌∙◌, ap, refl, subst, arith, append_assoc, append-nil, length-append, add-one, encode_utf8}
 use Rattle.std.proofs.lemmas.List.{take_at, drop_at, reverse-append}
 use Rattle.std.proofs.lemmas.Str.{length-encode, encodes-append}
 use Rattle.std.specs.Char.{len_utf8}
@@ -10,8 +10,8 @@ use Rattle.pg_base.specs.declared.token.TokenKind.{TokenKind}
 use Rattle.pg_base.specs.declared.token.Piece.{Piece}
 use Rattle.pg_base.specs.declared.token.Piece.TheVariants.{Gap, Lexeme, Bad}
 use Rattle.pg_base.specs.Characters.{line_length}
-use Rattle.pg_base.specs.Tokens.{Position, Lexed, Word, past, begun, size, piece_at, token_text, is_long, with_piece, with_word, lexed_from, lexed, start, broken}
-use Rattle.pg_base.specs.Layout.{IsGap, IsToken, written, IsFault, has_line_feed, IsWord, LaidOut, ends, breaks, gap, token}
+use Rattle.pg_base.specs.Tokens.{Position, Lexed, Word, past, begun, size, piece_at, token_text, is_long, with_piece, with_word, lexed_from, lexed}
+use Rattle.pg_base.specs.Layout.{written, has_line_feed, LaidOut, ends, breaks, gap, token}
 use Rattle.pg_base.proofs.Pieces.{CutGap, CutToken, IsCut, piece-cut}
 use Rattle.pg_base.proofs.Sizes.{piece_at-sized}
 use Rattle.pg_base.proofs.Lexing.{short_word, long_word}

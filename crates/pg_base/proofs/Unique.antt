@@ -1,22 +1,18 @@
 -- A text is laid out in one way, which is the lexer's definition.
-use Rattle.std.proofs.Common.{◌≡◌, ℕ, zero, suc, ◌+◌, ◌-◌, ◌<◌, ◌≤◌, Bool, true, false, cond, ◌&&◌, List, [], ◌∷◌, ◌++◌, length, take, drop, reverse, Option, Some, None, option_map, unwrap_or, codes, ◌==◌, inl, inr, sym, ◌∙◌, ap, refl, subst, arith, append_assoc, append-nil, length-append}
-use Rattle.std.proofs.lemmas.Bool.Decides.{nat_tests}
-use Rattle.std.specs.Str.{chars, encode_utf8_all}
-use Rattle.pg_base.specs.declared.token.Sign.{Sign}
-use Rattle.pg_base.specs.declared.token.TokenKind.{TokenKind}
-use Rattle.pg_base.specs.declared.token.TokenKind.TheVariants.{Name, Number, Text, Sign as SignToken}
+use Rattle.std.proofs.Common.{◌≡◌, ℕ, ◌+◌, List, [], ◌∷◌, ◌++◌, length, drop, reverse, Option, Some, option_map, unwrap_or, codes, sym, ◌∙◌, ap, refl, arith, append_assoc, append-nil, length-append}
+use Rattle.std.specs.Str.{encode_utf8_all}
+use Rattle.pg_base.specs.declared.token.TokenKind.TheVariants.{Text}
 use Rattle.pg_base.specs.declared.token.LexFault.{LexFault}
 use Rattle.pg_base.specs.declared.token.LexFault.TheVariants.{BadByte, OpenString, OpenComment, LongName}
-use Rattle.pg_base.specs.declared.token.Piece.{Piece}
 use Rattle.pg_base.specs.declared.token.Piece.TheVariants.{Gap, Lexeme, Bad}
-use Rattle.pg_base.specs.Characters.{character, is_letter, begins_with, begins_with_letter, begins_with_prefix_name, line_length, comment_length, text_length}
-use Rattle.pg_base.specs.Tokens.{Position, Lexed, Word, past, piece_at, token_text, is_long, with_piece, with_word, lexed_from, lexed, broken}
-use Rattle.pg_base.specs.Layout.{IsToken, written, IsFault, has_line_feed, IsWord, LaidOut, ends, breaks, gap, token, BeginsNothing, BeginsLong, IsAlone}
-use Rattle.pg_base.specs.Spans.{IsMadeOf, IsMadeOnlyOf}
+use Rattle.pg_base.specs.Characters.{line_length}
+use Rattle.pg_base.specs.Tokens.{Position, Lexed, Word, piece_at, lexed_from, lexed, broken}
+use Rattle.pg_base.specs.Layout.{written, IsFault, has_line_feed, LaidOut, ends, breaks, gap, token}
+use Rattle.pg_base.specs.Spans.{IsMadeOnlyOf}
 use Rattle.pg_base.proofs.Pieces.{begins-split}
 use Rattle.pg_base.proofs.Lexing.{lexed_from-gap, lexed_from-token, lexed_from-bad, lexed_from-long}
 use Rattle.pg_base.proofs.Layouts.{place_behind, past-place, laid_out}
-use Rattle.pg_base.proofs.Fronts.{piece-gap, Front, token-front, written-text, bad-byte, long-piece}
+use Rattle.pg_base.proofs.Fronts.{piece-gap, token-front, written-text, bad-byte, long-piece}
 
 -- passing over a front
 skip-front : (before since front rest : List ℕ) → lexed_from (length front) (place_behind before since) (front ++ rest) ≡ lexed_from 0 (place_behind (before ++ front) (since ++ front)) rest
@@ -58,9 +54,9 @@ lexed-laid (token before since text rest w words fault is laid) =
     let f = token-front at w.kind text rest is.token in
     let spelled : List ℕ = written w.kind text in
     let after : record { words = words; fault = fault } ≡ lexed_from (length spelled) (place_behind before []) (spelled ++ rest) =
-        sym (skip-front before [] spelled rest ∙ lexed-laid laid) in
+    sym (skip-front before [] spelled rest ∙ lexed-laid laid) in
     let found = lexed_from-token (place_behind before since) (spelled ++ rest) w.kind (length spelled) (encode_utf8_all text) (record { words = words; fault = fault })
-        f.piece f.some (omega (arith, length-append spelled rest)) (sym (written-text w.kind text rest)) f.short after in
+    f.piece f.some (omega (arith, length-append spelled rest)) (sym (written-text w.kind text rest)) f.short after in
     found ∙ ap (λ v. record { words = v ∷ words; fault = fault })
     (same_word (record { kind = w.kind; text = encode_utf8_all text; at = at; column = line_length (reverse before); first = has_line_feed since }) w refl (sym is.text_is) (sym is.at_is) (sym is.column_is) (sym is.first_is))
 
@@ -69,6 +65,6 @@ pub made_only_of : (source : List ℕ) → IsMadeOnlyOf source (lexed source).wo
 made_only_of source = record {
   made = laid_out source;
   only = λ others other made.
-    let same : lexed source ≡ record { words = others; fault = other } = lexed-laid made in
-    (ap (λ (x : Lexed). x.words) (sym same), ap (λ (x : Lexed). x.fault) (sym same));
+      let same : lexed source ≡ record { words = others; fault = other } = lexed-laid made in
+      (ap (λ (x : Lexed). x.words) (sym same), ap (λ (x : Lexed). x.fault) (sym same));
 }

@@ -1,5 +1,5 @@
 -- All tokens of a text.
-use Rattle.std.specs.Prelude.{◌≡◌, ℕ, List, map, Option, Some, None, Result, Ok, Err, Vec}
+use Rattle.std.specs.Prelude.{◌≡◌, ℕ, List, map, Some, None, Result, Ok, Err, Vec}
 use Rattle.std.specs.declared.alloc.Global.{Global}
 use Rattle.pg_base.specs.declared.token.Token.{Token}
 use Rattle.pg_base.specs.declared.lexer.TokensFault.{TokensFault}
