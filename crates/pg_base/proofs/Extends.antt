@@ -1,10 +1,9 @@
 -- What a front counts is what is counted where a rest stands behind it.
-use Rattle.std.proofs.Common.{◌≡◌, ℕ, zero, suc, ◌+◌, ◌-◌, ◌<◌, ◌≤◌, Bool, true, false, cond, ◌&&◌, ◌||◌, not, nat_le, List, [], ◌∷◌, ◌++◌, length, take, drop, Option, Some, None, option_map, codes, ◌==◌, sym, ◌∙◌, ap, refl, subst, arith}
-use Rattle.std.proofs.lemmas.Bool.Decides.{nat_tests}
+use Rattle.std.proofs.Common.{◌≡◌, ℕ, zero, suc, ◌+◌, ◌-◌, ◌<◌, ◌≤◌, Bool, true, false, cond, not, nat_le, List, [], ◌∷◌, ◌++◌, length, drop, Some, codes, ◌==◌, sym, ◌∙◌, ap, refl, arith}
 use Rattle.std.specs.Char.{is_ascii_digit}
-use Rattle.pg_base.specs.Characters.{character, is_letter, is_name_character, begins_with_letter, begins_with, begins_with_prefix_name, name_length, number_length, line_length, more, opens_comment, closes_comment, comment_length, text_length}
+use Rattle.pg_base.specs.Characters.{character, begins_with_letter, begins_with, begins_with_prefix_name, name_length, number_length, line_length, more, opens_comment, closes_comment, comment_length, text_length}
 use Rattle.pg_base.specs.Layout.{IsName}
-use Rattle.pg_base.proofs.Runs.{More, more_some, goes_on, same_goes_on, name_length-cons, turn-opens, turn-ends, turn-closes, turn-goes_on, front_letter}
+use Rattle.pg_base.proofs.Runs.{more_some, goes_on, same_goes_on, name_length-cons, turn-opens, turn-ends, turn-closes, turn-goes_on, front_letter}
 use Rattle.pg_base.proofs.Pieces.{and_left, and_right, begins-split}
 
 -- ---- lines, numbers, names

@@ -1,5 +1,5 @@
 -- A text is laid out as the tokens that the lexer's definition gives.
-use Rattle.std.proofs.Common.{◌≡◌, ℕ, zero, suc, ◌+◌, ◌-◌, ◌<◌, ◌≤◌, Bool, true, false, cond, ◌||◌, List, [], ◌∷◌, ◌++◌, length, take, drop, reverse, Option, Some, None, ◌==◌, sym, ◌∙◌, ap, refl, subst, arith, append_assoc, append-nil, length-append, add-one, encode_utf8}
+use Rattle.std.proofs.Common.{◌≡◌, ℕ, zero, suc, ◌+◌, ◌-◌, ◌<◌, ◌≤◌, Bool, true, false, cond, ◌||◌, List, [], ◌∷◌, ◌++◌, length, take, drop, reverse, Option, ◌==◌, sym, ◌∙◌, ap, refl, subst, arith, append_assoc, append-nil, length-append, add-one, encode_utf8}
 use Rattle.std.proofs.lemmas.List.{take_at, drop_at, reverse-append}
 use Rattle.std.proofs.lemmas.Str.{length-encode, encodes-append}
 use Rattle.std.specs.Char.{len_utf8}
@@ -10,14 +10,14 @@ use Rattle.pg_base.specs.declared.token.TokenKind.{TokenKind}
 use Rattle.pg_base.specs.declared.token.Piece.{Piece}
 use Rattle.pg_base.specs.declared.token.Piece.TheVariants.{Gap, Lexeme, Bad}
 use Rattle.pg_base.specs.Characters.{line_length}
-use Rattle.pg_base.specs.Tokens.{Position, Lexed, Word, past, begun, size, piece_at, token_text, is_long, with_piece, with_word, lexed_from, lexed, start, broken}
-use Rattle.pg_base.specs.Layout.{IsGap, IsToken, written, IsFault, has_line_feed, IsWord, LaidOut, ends, breaks, gap, token}
+use Rattle.pg_base.specs.Tokens.{Position, Lexed, Word, past, begun, size, piece_at, token_text, is_long, with_piece, with_word, lexed_from, lexed}
+use Rattle.pg_base.specs.Layout.{written, has_line_feed, LaidOut, ends, breaks, gap, token}
 use Rattle.pg_base.proofs.Pieces.{CutGap, CutToken, IsCut, piece-cut}
 use Rattle.pg_base.proofs.Sizes.{piece_at-sized}
-use Rattle.pg_base.proofs.Lexing.{short_word}
+use Rattle.pg_base.proofs.Lexing.{short_word, long_word}
 
 -- the position behind these characters of the text, the second those since the last token began
-abbrev place_behind : List ℕ → List ℕ → Position
+abbrev pub place_behind : List ℕ → List ℕ → Position
 place_behind before since = record { place = length (encode_utf8_all before); column = line_length (reverse before); fresh = has_line_feed since }
 
 or-swap : (a b x : Bool) → (a || (b || x)) ≡ (b || (a || x))
@@ -34,7 +34,7 @@ same_position : (a b : ℕ) (c d : ℕ) (e f : Bool) → a ≡ b → c ≡ d →
     → record { place = a; column = c; fresh = e } ≡ (let p : Position = record { place = b; column = d; fresh = f } in p)
 same_position a b c d e f p q r = λ i. record { place = p i; column = q i; fresh = r i }
 
-past-place : (c : ℕ) (before since : List ℕ) → past c (place_behind before since) ≡ place_behind (before ++ c ∷ []) (since ++ c ∷ [])
+pub past-place : (c : ℕ) (before since : List ℕ) → past c (place_behind before since) ≡ place_behind (before ++ c ∷ []) (since ++ c ∷ [])
 past-place c before since =
     let bytes : length (encode_utf8_all before) + len_utf8 c ≡ length (encode_utf8_all (before ++ c ∷ [])) =
     omega (arith, ap length (encodes-append before (c ∷ [])), length-append (encode_utf8_all before) (encode_utf8_all (c ∷ [])), length-append (encode_utf8 c) [], length-encode c) in
@@ -68,9 +68,6 @@ lay-gap before since c cs n cut some behind =
     let f = front-behind c cs cut.gap cut.rest n cut.whole cut.count some in
     let joined : (xs : List ℕ) → (xs ++ c ∷ []) ++ take (n - 1) cs ≡ xs ++ cut.gap = λ xs. append_assoc xs (c ∷ []) (take (n - 1) cs) ∙ ap (λ x. xs ++ x) f.0 in
     lay-same refl refl (sym cut.whole) (gap before since cut.gap cut.rest _ _ cut.is (lay-same (joined before) (joined since) f.1 behind))
-
-long_word : (p : Position) (kind : TokenKind) (text : List ℕ) (rest : Lexed) → is_long kind text ≡ true → with_word p kind text rest ≡ broken (LongName p.place)
-long_word p kind text rest long = rw long refl
 
 lay-word : (before since : List ℕ) (c : ℕ) (cs : List ℕ) (kind : TokenKind) (n : ℕ) → CutToken kind n (c ∷ cs) → 0 < n → Behind before [] (n - 1) c cs
     → (all : Lexed) → all ≡ with_word (place_behind before since) kind (token_text kind n (c ∷ cs)) (lexed_from (n - 1) (past c (place_behind before [])) cs)

@@ -1,20 +1,20 @@
 -- What stands at the front of a text is a gap, a token or a fault as the layout tells them.
-use Rattle.std.proofs.Common.{◌≡◌, ℕ, zero, suc, ◌+◌, ◌-◌, ◌<◌, ◌≤◌, Bool, true, false, cond, ◌&&◌, ◌||◌, nat_lt, List, [], ◌∷◌, ◌++◌, length, take, drop, Option, Some, None, option_map, unwrap_or, codes, ◌==◌, ◌⊎◌, inl, inr, sym, ◌∙◌, ap, refl, subst, arith, append_assoc, length-append}
+use Rattle.std.proofs.Common.{◌≡◌, ℕ, zero, suc, ◌+◌, ◌-◌, ◌<◌, Bool, true, false, ◌&&◌, List, [], ◌∷◌, ◌++◌, length, take, drop, Option, Some, None, option_map, unwrap_or, codes, ◌==◌, inl, inr, sym, ◌∙◌, ap, refl, subst, arith, append_assoc, length-append}
 use Rattle.std.proofs.lemmas.Bool.Decides.{nat_tests}
-use Rattle.std.proofs.lemmas.List.{take_at, drop_at}
+use Rattle.std.proofs.lemmas.List.{take_at}
 use Rattle.std.specs.Char.{is_ascii_digit}
 use Rattle.std.specs.Str.{encode_utf8_all}
 use Rattle.pg_base.specs.declared.token.Sign.{Sign}
 use Rattle.pg_base.specs.declared.token.TokenKind.{TokenKind}
 use Rattle.pg_base.specs.declared.token.TokenKind.TheVariants.{Name, Number, Text, Sign as SignToken}
-use Rattle.pg_base.specs.declared.token.LexFault.TheVariants.{BadByte, OpenString, OpenComment, LongName}
+use Rattle.pg_base.specs.declared.token.LexFault.TheVariants.{BadByte, OpenString, OpenComment}
 use Rattle.pg_base.specs.declared.token.Piece.{Piece}
 use Rattle.pg_base.specs.declared.token.Piece.TheVariants.{Gap, Lexeme, Bad}
 use Rattle.pg_base.specs.Characters.{character, is_letter, is_blank, begins_with_letter, begins_with, begins_with_prefix_name, name_length, number_length, line_length, comment_length, text_length}
 use Rattle.pg_base.specs.Signs.{sign_of_one, sign_of_two, sign_of_name}
 use Rattle.pg_base.specs.Tokens.{piece_at, sign_piece, name_kind, name_piece, comment_piece, token_text, is_long}
-use Rattle.pg_base.specs.Layout.{IsGap, blank, prefix_name, line_comment, block_comment, IsName, IsNumber, IsQuoted, IsAlone, IsToken, written, BeginsNothing, BeginsLong, IsFault}
-use Rattle.pg_base.proofs.Runs.{Run, name_run, number_run, line_run, front_letter, Reach, comment_reach, Quoted, quoted}
+use Rattle.pg_base.specs.Layout.{IsGap, blank, prefix_name, line_comment, block_comment, IsName, IsAlone, IsToken, written, BeginsNothing, BeginsLong, IsFault}
+use Rattle.pg_base.proofs.Runs.{name_run, number_run, line_run, front_letter, comment_reach, quoted}
 use Rattle.pg_base.proofs.Sizes.{by_cases}
 
 pub record CutGap (n : ℕ) (cs : List ℕ) : Type 0 where

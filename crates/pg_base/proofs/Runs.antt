@@ -1,8 +1,8 @@
 -- How far a name, a number, a line, a comment and a text reach, as a front and the rest.
-use Rattle.std.proofs.Common.{◌≡◌, ℕ, zero, suc, ◌+◌, ◌-◌, ◌<◌, ◌≤◌, Bool, true, false, cond, ◌&&◌, ◌||◌, nat_le, List, [], ◌∷◌, ◌++◌, length, take, drop, Option, Some, None, option_map, codes, ◌==◌, sym, ◌∙◌, ap, refl, subst, arith}
+use Rattle.std.proofs.Common.{◌≡◌, ℕ, suc, ◌+◌, ◌-◌, Bool, true, false, cond, ◌&&◌, ◌||◌, nat_le, List, [], ◌∷◌, ◌++◌, length, Option, Some, None, ◌==◌, sym, ◌∙◌, ap, refl, arith}
 use Rattle.std.proofs.lemmas.Bool.Decides.{nat_tests}
 use Rattle.std.specs.Char.{is_ascii_digit}
-use Rattle.pg_base.specs.Characters.{character, is_letter, is_name_character, begins_with_letter, begins_with, begins_with_prefix_name, name_length, number_length, line_length, more, opens_comment, closes_comment, comment_length, text_length}
+use Rattle.pg_base.specs.Characters.{character, is_letter, is_name_character, begins_with_letter, name_length, number_length, line_length, more, opens_comment, closes_comment, comment_length, text_length}
 
 -- a front that the measure counts whole, and a rest of which it counts nothing
 pub record Run (measure : List ℕ → ℕ) (cs : List ℕ) : Type 0 where

@@ -1,5 +1,5 @@
 -- The tokens of a text that is laid out stand in it, in order.
-use Rattle.std.proofs.Common.{◌≡◌, ℕ, zero, suc, ◌+◌, ◌-◌, ◌<◌, ◌≤◌, Bool, true, false, ◌&&◌, List, [], ◌∷◌, ◌++◌, length, take, drop, Option, Some, None, ◌⊎◌, inl, inr, sym, ◌∙◌, ap, refl, subst, arith, append_assoc, append-nil, length-append, All}
+use Rattle.std.proofs.Common.{◌≡◌, ℕ, ◌≤◌, Bool, true, false, ◌&&◌, List, [], ◌∷◌, ◌++◌, length, take, drop, Option, inl, inr, sym, ◌∙◌, ap, refl, subst, arith, append_assoc, length-append}
 use Rattle.std.proofs.lemmas.List.{take_at, drop_at}
 use Rattle.std.proofs.lemmas.List.Elements.{All-from_recursion}
 use Rattle.std.specs.List.{AllByRecursion}
@@ -11,9 +11,9 @@ use Rattle.pg_base.specs.declared.token.LexFault.{LexFault}
 use Rattle.pg_base.specs.declared.token.TokenKind.{TokenKind}
 use Rattle.pg_base.specs.declared.token.TokenKind.TheVariants.{Name, Number, Text, Sign as SignToken}
 use Rattle.pg_base.specs.Characters.{character}
-use Rattle.pg_base.specs.Tokens.{Word, Lexed, lexed}
-use Rattle.pg_base.specs.Layout.{IsToken, IsShortSign, written, IsWord, LaidOut, ends, breaks, gap, token}
-use Rattle.pg_base.specs.Spans.{IsTokenText, token_end, AreInOrder, AreTokens, StandsIn, AreTokensOf}
+use Rattle.pg_base.specs.Tokens.{Word, lexed}
+use Rattle.pg_base.specs.Layout.{IsToken, IsShortSign, written, LaidOut, ends, breaks, gap, token}
+use Rattle.pg_base.specs.Spans.{IsTokenText, token_end, AreInOrder, StandsIn, AreTokensOf}
 use Rattle.pg_base.proofs.Characters.{chars-spell}
 use Rattle.pg_base.proofs.Layouts.{laid_out}
 

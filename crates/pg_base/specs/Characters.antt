@@ -1,5 +1,5 @@
 -- Characters, each by its Unicode number, and how far a name, a number, a line, a comment and a text reach.
-use Rattle.std.specs.Prelude.{◌≡◌, ℕ, zero, suc, ◌+◌, ◌-◌, Bool, true, false, ◌&&◌, ◌||◌, List, [], ◌∷◌, drop, Option, Some, None, option_map, if◌then◌else◌, ◌==◌, nat_le, slice_index, codes}
+use Rattle.std.specs.Prelude.{ℕ, suc, ◌+◌, ◌-◌, Bool, true, false, ◌&&◌, ◌||◌, List, [], ◌∷◌, drop, Option, Some, None, option_map, if◌then◌else◌, ◌==◌, nat_le, slice_index, codes}
 use Rattle.std.specs.Char.{is_ascii_alphabetic, is_ascii_digit}
 use Prim.Native.String.{String}
 

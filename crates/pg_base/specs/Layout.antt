@@ -1,5 +1,6 @@
--- How a text is made of gaps and tokens, told without a lexer.
-use Rattle.std.specs.Prelude.{◌≡◌, ℕ, ◌+◌, ◌<◌, ◌≤◌, Bool, true, false, List, [], ◌∷◌, ◌++◌, length, drop, reverse, Option, Some, None, ◌==◌, ◌||◌, codes, IsTrue, IsFalse, ◌⊎◌}
+-- How a text is made of gaps and tokens, told without a lexer: what a gap, a token and a fault are, and that
+-- they stand one behind the other. A text is made of its tokens in one way only, and the lexer gives these.
+use Rattle.std.specs.Prelude.{◌≡◌, ℕ, ◌+◌, ◌<◌, ◌≤◌, Bool, false, List, [], ◌∷◌, ◌++◌, length, drop, reverse, Option, Some, None, ◌==◌, ◌||◌, codes, IsTrue, IsFalse, ◌⊎◌}
 use Rattle.std.specs.Char.{is_ascii_digit}
 use Rattle.std.specs.Str.{encode_utf8_all}
 use Rattle.pg_base.specs.declared.token.Sign.{Sign}

@@ -1,5 +1,5 @@
 -- Where the tokens of a text stand, and what their texts are.
-use Rattle.std.specs.Prelude.{◌≡◌, ℕ, ◌+◌, ◌≤◌, List, [], ◌∷◌, length, take, drop, All, Option, map, None, Some, Result, Ok, Err, Vec}
+use Rattle.std.specs.Prelude.{◌≡◌, ℕ, ◌+◌, ◌≤◌, List, [], ◌∷◌, length, take, drop, All, Option}
 use Rattle.std.specs.Str.{chars}
 use Rattle.pg_base.specs.declared.token.TokenKind.{TokenKind}
 use Rattle.pg_base.specs.declared.token.LexFault.{LexFault}
@@ -37,3 +37,8 @@ pub record AreTokensOf (source : List ℕ) (words : List Word) : Type 0 where
 -- text one has ended.
 abbrev pub IsMadeOf : (source : List ℕ) → List Word → Option LexFault → Type 0
 IsMadeOf source words fault = LaidOut [] (10 ∷ []) (chars source) words fault
+
+-- The same, and of no other tokens and no other fault.
+pub record IsMadeOnlyOf (source : List ℕ) (words : List Word) (fault : Option LexFault) : Type 0 where
+  pub made : IsMadeOf source words fault
+  pub only : (others : List Word) (other : Option LexFault) → IsMadeOf source others other → (others ≡ words) × (other ≡ fault)

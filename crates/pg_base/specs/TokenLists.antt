@@ -1,11 +1,11 @@
 -- All tokens of a text.
-use Rattle.std.specs.Prelude.{◌≡◌, ℕ, List, map, Option, Some, None, Result, Ok, Err, Vec}
+use Rattle.std.specs.Prelude.{◌≡◌, ℕ, List, map, Some, None, Result, Ok, Err, Vec}
 use Rattle.std.specs.declared.alloc.Global.{Global}
 use Rattle.pg_base.specs.declared.token.Token.{Token}
 use Rattle.pg_base.specs.declared.lexer.TokensFault.{TokensFault}
 use Rattle.pg_base.specs.declared.lexer.TokensFault.TheVariants.{Lex, OutOfMemory}
 use Rattle.pg_base.specs.Tokens.{Word, Lexed, word}
-use Rattle.pg_base.specs.Spans.{IsMadeOf}
+use Rattle.pg_base.specs.Spans.{IsMadeOnlyOf}
 
 -- All tokens, or the fault that comes after them.
 abbrev pub GivesTokens : Lexed → Result (Vec Token Global) TokensFault → Type 0
@@ -13,8 +13,8 @@ GivesTokens all (Ok tokens) = (map word tokens.items ≡ all.words) × (all.faul
 GivesTokens all (Err (Lex fault)) = all.fault ≡ Some fault
 GivesTokens all (Err OutOfMemory) = Unit {0}
 
--- Gaps and the tokens are the whole text, or gaps, some tokens and the fault.
-abbrev pub GivesMadeOf : List ℕ → Result (Vec Token Global) TokensFault → Type 0
-GivesMadeOf source (Ok tokens) = IsMadeOf source (map word tokens.items) None
-GivesMadeOf source (Err (Lex fault)) = (words : List Word) × IsMadeOf source words (Some fault)
-GivesMadeOf source (Err OutOfMemory) = Unit {0}
+-- Gaps and the tokens are the whole text; or gaps, some tokens and the fault are.
+abbrev pub GivesMadeOnlyOf : List ℕ → Result (Vec Token Global) TokensFault → Type 0
+GivesMadeOnlyOf source (Ok tokens) = IsMadeOnlyOf source (map word tokens.items) None
+GivesMadeOnlyOf source (Err (Lex fault)) = (words : List Word) × IsMadeOnlyOf source words (Some fault)
+GivesMadeOnlyOf source (Err OutOfMemory) = Unit {0}
