@@ -48,7 +48,8 @@ ending s = Assign ∷ By ∷ sample_symbol s ∷ NewTactic ∷ Rfl ∷ []
 
 -- World TEXT, Level 1, Statement : left = right := by sample, NewTactic rfl
 abbrev pub game_symbols : Shape → Shape → Sample → List Symbol
-game_symbols left right s = World ∷ WorldName ∷ Level ∷ One ∷ Statement ∷ Colon ∷ (spelled left ++ Equal ∷ (spelled right ++ ending s))
+game_symbols left right s =
+    World ∷ WorldName ∷ Level ∷ One ∷ Statement ∷ Colon ∷ (spelled left ++ Equal ∷ (spelled right ++ ending s))
 
 -- The symbols are a game with this target. Where the sample is `rfl`, it closes.
 pub record IsGame (symbols : List Symbol) (target : Fm) (s : Sample) : Type 0 where

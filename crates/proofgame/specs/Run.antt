@@ -12,7 +12,7 @@ use Rattle.pg_tactic.specs.declared.first.FirstScript.TheVariants.{Empty, Rfl}
 use Rattle.pg_base.specs.Outside.{GivesFile, Told}
 use Rattle.pg_base.specs.declared.outside.Place.{Place}
 use Rattle.pg_base.specs.declared.outside.Place.TheVariants.{Standard}
-use Rattle.proofgame.specs.Asked.{OneMore, FinishesFirst, LeavesLists}
+use Rattle.proofgame.specs.Asked.{Connections, OneMore, FinishesFirst, LeavesLists}
 use Rattle.proofgame.specs.Game.{IsGameText}
 use Rattle.proofgame.specs.Print.{Printed}
 use Rattle.proofgame.specs.Script.{script_of, DoorGave}
@@ -41,32 +41,35 @@ Ends target None OtherScript = ⊤
 Ends target script ending = ⊥
 
 -- the door gave a script, and it makes this of the target
-pub record Plays (target : Fm) (coming : Option (List Told)) (ending : Ending) : Type 0 where
+pub record Plays (target : Fm) (coming : Connections) (ending : Ending) : Type 0 where
   pub script : List ℕ
   pub gave : DoorGave coming script
   pub ends : Ends target (script_of script) ending
 
 -- The door fails only by its cause, and want of memory is free.
-abbrev pub PlaysAt : Fm → Option (List Told) → Type 0 → Ending → Type 0
+abbrev pub PlaysAt : Fm → Connections → Type 0 → Ending → Type 0
 PlaysAt target coming door_failed Door = door_failed
 PlaysAt target coming door_failed Memory = ⊤
 PlaysAt target coming door_failed ending = Plays target coming ending
 
 -- the text is a game, and it is played to this ending
-pub record EndsGame (text : List ℕ) (coming : Option (List Told)) (door_failed : Type 0) (ending : Ending) : Type 0 where
+pub record EndsGame (text : List ℕ) (coming : Connections) (door_failed : Type 0)
+    (ending : Ending) : Type 0 where
   pub target : Fm
   pub sample : Sample
   pub game : IsGameText text target sample
   pub plays : PlaysAt target coming door_failed ending
 
 -- how a run with this text ends
-abbrev pub EndsText : List ℕ → Option (List Told) → Type 0 → Ending → Type 0
-EndsText text coming door_failed OtherGame = (target : Fm) (sample : Sample) → IsGameText text target sample → ⊥
+abbrev pub EndsText : List ℕ → Connections → Type 0 → Ending → Type 0
+EndsText text coming door_failed OtherGame =
+    (target : Fm) (sample : Sample) → IsGameText text target sample → ⊥
 EndsText text coming door_failed Memory = ⊤
 EndsText text coming door_failed ending = EndsGame text coming door_failed ending
 
 -- the file that the words name gave a text, and the run with it ends so
-pub record EndsFile (words : List (Bor (List ℕ))) (files : Option (List (List ℕ × List ℕ))) (coming : Option (List Told)) (door_failed : Type 0) (ending : Ending) : Type 0 where
+pub record EndsFile (words : List (Bor (List ℕ))) (files : Option (List (List ℕ × List ℕ)))
+    (coming : Connections) (door_failed : Type 0) (ending : Ending) : Type 0 where
   pub name : List ℕ
   pub named : game_name words ≡ Some name
   pub text : List ℕ
@@ -74,11 +77,14 @@ pub record EndsFile (words : List (Bor (List ℕ))) (files : Option (List (List 
   pub ends : EndsText text coming door_failed ending
 
 -- how a run ends
-abbrev pub EndsRun : List (Bor (List ℕ)) → Option (List (List ℕ × List ℕ)) → Option (List Told) → Type 0 → Type 0 → Ending → Type 0
+abbrev pub EndsRun : List (Bor (List ℕ)) → Option (List (List ℕ × List ℕ)) → Connections
+    → Type 0 → Type 0 → Ending → Type 0
 EndsRun words files coming file_failed door_failed Words = game_name words ≡ None
-EndsRun words files coming file_failed door_failed (File name) = (game_name words ≡ Some name.now) × file_failed
+EndsRun words files coming file_failed door_failed (File name) =
+    (game_name words ≡ Some name.now) × file_failed
 EndsRun words files coming file_failed door_failed Memory = ⊤
-EndsRun words files coming file_failed door_failed ending = EndsFile words files coming door_failed ending
+EndsRun words files coming file_failed door_failed ending =
+    EndsFile words files coming door_failed ending
 
 -- ---- what it asks for
 
@@ -103,30 +109,36 @@ AsksPlaces old new Memory = (new ≡ old) ⊎ OneMore old new Standard
 AsksPlaces old new ending = OneMore old new Standard
 
 -- the door's connections, before and after a run that ends so
-abbrev pub DoorListsAt : Option (List Told) → Option (List Told) → Option (List Told) → Option (List Told) → Ending → Type 0
+abbrev pub DoorListsAt : Connections → Connections → Connections → Connections → Ending → Type 0
 DoorListsAt to_come coming old new Words = LeavesLists to_come coming old new
 DoorListsAt to_come coming old new (File name) = LeavesLists to_come coming old new
 DoorListsAt to_come coming old new OtherGame = LeavesLists to_come coming old new
-DoorListsAt to_come coming old new Memory = LeavesLists to_come coming old new ⊎ FinishesFirst to_come coming old new
-DoorListsAt to_come coming old new Door = LeavesLists to_come coming old new ⊎ FinishesFirst to_come coming old new
+DoorListsAt to_come coming old new Memory =
+    LeavesLists to_come coming old new ⊎ FinishesFirst to_come coming old new
+DoorListsAt to_come coming old new Door =
+    LeavesLists to_come coming old new ⊎ FinishesFirst to_come coming old new
 DoorListsAt to_come coming old new ending = FinishesFirst to_come coming old new
 
 -- ---- a run
 
-pub record Runs (words : List (Bor (List ℕ))) (files : Option (List (List ℕ × List ℕ))) (coming : Option (List Told)) (file_failed door_failed : Type 0)
-    (result : ℕ) (old new : Option (List ℕ)) (out_failed : Type 0) (names names_now : List (List ℕ)) (places places_now : List Place)
-    (coming_now finished finished_now : Option (List Told)) : Type 0 where
+pub record Runs (words : List (Bor (List ℕ)))
+    (files : Option (List (List ℕ × List ℕ))) (names names_now : List (List ℕ)) (file_failed : Type 0)
+    (coming coming_now finished finished_now : Connections) (places places_now : List Place) (door_failed : Type 0)
+    (result : ℕ) (written written_now : Option (List ℕ)) (out_failed : Type 0) : Type 0 where
   pub ending : Ending
   pub ends : EndsRun words files coming file_failed door_failed ending
   pub asks_files : AsksFiles words names names_now ending
   pub asks_places : AsksPlaces places places_now ending
   pub lists : DoorListsAt coming coming_now finished finished_now ending
-  pub printed : Printed (text_of ending) (status_of ending) result old new out_failed ⊎ Printed (text_of Memory) 4 result old new out_failed
+  -- the lines of that ending, or want of memory
+  pub printed : Printed (text_of ending) (status_of ending) result written written_now out_failed
+      ⊎ Printed (text_of Memory) 4 result written written_now out_failed
 
 -- ---- where `won` is printed
 
 -- the words name a game, the script of the door is `rfl`, and the level is won
-pub record Wins (words : List (Bor (List ℕ))) (files : Option (List (List ℕ × List ℕ))) (coming : Option (List Told)) : Type 0 where
+pub record Wins (words : List (Bor (List ℕ))) (files : Option (List (List ℕ × List ℕ)))
+    (coming : Connections) : Type 0 where
   pub name : List ℕ
   pub named : game_name words ≡ Some name
   pub text : List ℕ
@@ -147,12 +159,15 @@ pub record PrintsWon (result : ℕ) (old new : Option (List ℕ)) : Type 0 where
   pub status : result ≡ 0
 
 -- the door tells its first connection, and the connection what is left to read
-abbrev pub TellsScript : Option (List Told) → Type 0
+abbrev pub TellsScript : Connections → Type 0
 TellsScript None = ⊥
 TellsScript (Some []) = ⊤
 TellsScript (Some (conn ∷ rest)) = IsSome conn.left
 
 -- `won` is printed, or memory ran out, or the files or the door failed
-abbrev pub PrintsWonUnless : Type 0 → Type 0 → ℕ → Option (List ℕ) → Option (List ℕ) → Type 0 → Type 0
+abbrev pub PrintsWonUnless : Type 0 → Type 0
+    → ℕ → Option (List ℕ) → Option (List ℕ) → Type 0 → Type 0
 PrintsWonUnless file_failed door_failed result old new out_failed =
-    Printed (text_of Won) 0 result old new out_failed ⊎ Printed (text_of Memory) 4 result old new out_failed ⊎ file_failed ⊎ door_failed
+    Printed (text_of Won) 0 result old new out_failed
+    ⊎ Printed (text_of Memory) 4 result old new out_failed
+    ⊎ file_failed ⊎ door_failed

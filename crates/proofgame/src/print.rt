@@ -23,7 +23,8 @@ fn write_all<O: Sink>(out: &mut O, text: &[u8]) -> Result<(), OutFault>
 
 /// Writes the lines of a status and gives the status: this one, 5 where a write failed, and 4 where it found no memory.
 pub fn print<O: Sink>(out: &mut O, lines: &[u8], status: u8) -> u8
-    ensures { Printed lines.now status result (O.written out.old) (O.written out.new) (Rose (O.write_faults out.old) (O.write_faults out.new)) }
+    ensures { Printed lines.now status result (O.written out.old) (O.written out.new)
+        (Rose (O.write_faults out.old) (O.write_faults out.new)) }
 {
     match write_all(out, lines) {
         Ok(()) => status,

@@ -1,7 +1,8 @@
 // One run of the program.
-ghost use Rattle.std.specs.Prelude.{◌≡◌, ◌⊎◌, IsSome};
+ghost use Rattle.std.specs.Prelude.{◌≡◌, IsSome};
 ghost use Rattle.pg_terms.specs.View.{formula};
 ghost use Rattle.pg_base.specs.Outside.{Rose};
+ghost use Rattle.proofgame.specs.Asked.{DoorFailed};
 ghost use Rattle.proofgame.specs.Run.{Ends, PlaysAt, EndsText, EndsRun, AsksFiles, AsksPlaces, DoorListsAt, Runs, Wins, PrintsWon, PrintsWonUnless, TellsScript};
 
 use crate::ending::{Ending, status_of, text_of};
@@ -30,9 +31,10 @@ fn ending_of(game: Game, script: Option<FirstScript>) -> Ending<'static>
 // The script of the door's connection decides.
 fn play_game<D: Door>(alloc: Global, game: Game, door: &mut D) -> Ending<'static>
     ensures places { AsksPlaces (D.places door.old) (D.places door.new) result }
-    ensures lists { DoorListsAt (D.coming door.old) (D.coming door.new) (D.finished door.old) (D.finished door.new) result }
+    ensures lists { DoorListsAt (D.coming door.old) (D.coming door.new)
+        (D.finished door.old) (D.finished door.new) result }
     ensures plays { PlaysAt (formula game.target.formula) (D.coming door.old)
-        (Rose (D.faults door.old) (D.faults door.new) ⊎ Rose (D.given door.new).0 (D.ended door.new).0) result }
+        (DoorFailed (D.faults door.old) (D.faults door.new) (D.given door.new) (D.ended door.new)) result }
 {
     match script_at(alloc, door) {
         Ok(bytes) => match script_in(alloc, &bytes) {
@@ -47,9 +49,10 @@ fn play_game<D: Door>(alloc: Global, game: Game, door: &mut D) -> Ending<'static
 // The game's text decides, and then the script.
 fn play_text<D: Door>(alloc: Global, text: &[u8], door: &mut D) -> Ending<'static>
     ensures places { AsksPlaces (D.places door.old) (D.places door.new) result }
-    ensures lists { DoorListsAt (D.coming door.old) (D.coming door.new) (D.finished door.old) (D.finished door.new) result }
+    ensures lists { DoorListsAt (D.coming door.old) (D.coming door.new)
+        (D.finished door.old) (D.finished door.new) result }
     ensures ends { EndsText text.now (D.coming door.old)
-        (Rose (D.faults door.old) (D.faults door.new) ⊎ Rose (D.given door.new).0 (D.ended door.new).0) result }
+        (DoorFailed (D.faults door.old) (D.faults door.new) (D.given door.new) (D.ended door.new)) result }
 {
     match game_in(alloc, text) {
         Ok(Some(game)) => play_game(alloc, game, door),
@@ -68,9 +71,11 @@ fn play<'a, F: Files, D: Door>(
     ensures files { F.files files.new ≡ F.files files.old }
     ensures names { AsksFiles words.now (F.asked files.old) (F.asked files.new) result }
     ensures places { AsksPlaces (D.places door.old) (D.places door.new) result }
-    ensures lists { DoorListsAt (D.coming door.old) (D.coming door.new) (D.finished door.old) (D.finished door.new) result }
-    ensures ends { EndsRun words.now (F.files files.old) (D.coming door.old) (Rose (F.faults files.old) (F.faults files.new))
-        (Rose (D.faults door.old) (D.faults door.new) ⊎ Rose (D.given door.new).0 (D.ended door.new).0) result }
+    ensures lists { DoorListsAt (D.coming door.old) (D.coming door.new)
+        (D.finished door.old) (D.finished door.new) result }
+    ensures ends { EndsRun words.now (F.files files.old) (D.coming door.old)
+        (Rose (F.faults files.old) (F.faults files.new))
+        (DoorFailed (D.faults door.old) (D.faults door.new) (D.given door.new) (D.ended door.new)) result }
 {
     let Some(name) = game_name(words) else {
         return Ending::Words;
@@ -93,18 +98,25 @@ pub fn run<F: Files, D: Door, O: Sink>(
     out: &mut O,
 ) -> u8
     ensures files { F.files files.new ≡ F.files files.old }
-    ensures runs { Runs words.now (F.files files.old) (D.coming door.old) (Rose (F.faults files.old) (F.faults files.new))
-        (Rose (D.faults door.old) (D.faults door.new) ⊎ Rose (D.given door.new).0 (D.ended door.new).0)
-        result (O.written out.old) (O.written out.new) (Rose (O.write_faults out.old) (O.write_faults out.new))
-        (F.asked files.old) (F.asked files.new) (D.places door.old) (D.places door.new)
-        (D.coming door.new) (D.finished door.old) (D.finished door.new) }
+    ensures runs { Runs words.now
+        (F.files files.old) (F.asked files.old) (F.asked files.new)
+        (Rose (F.faults files.old) (F.faults files.new))
+        (D.coming door.old) (D.coming door.new) (D.finished door.old) (D.finished door.new)
+        (D.places door.old) (D.places door.new)
+        (DoorFailed (D.faults door.old) (D.faults door.new) (D.given door.new) (D.ended door.new))
+        result (O.written out.old) (O.written out.new)
+        (Rose (O.write_faults out.old) (O.write_faults out.new)) }
 
-    // `won` is printed exactly where the words, the game and the script are so, a counted fault or want of memory aside.
-    ensures won_only { PrintsWon result (O.written out.old) (O.written out.new) → Wins words.now (F.files files.old) (D.coming door.old) }
-    ensures won_where { Wins words.now (F.files files.old) (D.coming door.old) → IsSome (F.files files.old) → TellsScript (D.coming door.old)
+    // `won` is printed exactly where the words, the game and the script are so, a counted fault and
+    // want of memory aside.
+    ensures won_only { PrintsWon result (O.written out.old) (O.written out.new)
+        → Wins words.now (F.files files.old) (D.coming door.old) }
+    ensures won_where { Wins words.now (F.files files.old) (D.coming door.old)
+        → IsSome (F.files files.old) → TellsScript (D.coming door.old)
         → PrintsWonUnless (Rose (F.faults files.old) (F.faults files.new))
-        (Rose (D.faults door.old) (D.faults door.new) ⊎ Rose (D.given door.new).0 (D.ended door.new).0)
-        result (O.written out.old) (O.written out.new) (Rose (O.write_faults out.old) (O.write_faults out.new)) }
+        (DoorFailed (D.faults door.old) (D.faults door.new) (D.given door.new) (D.ended door.new))
+        result (O.written out.old) (O.written out.new)
+        (Rose (O.write_faults out.old) (O.write_faults out.new)) }
 {
     let ending = play(alloc, words, files, door);
     match text_of(alloc, &ending) {

@@ -1,10 +1,10 @@
 // The script of a run, from the door's first connection.
-ghost use Rattle.std.specs.Prelude.{◌≡◌, ◌⊎◌, ◌<◌, IfOk, Err, map};
+ghost use Rattle.std.specs.Prelude.{◌≡◌, IfOk, Err, map};
 ghost use Rattle.pg_base.specs.declared.outside.OutFault.TheVariants.{Failed};
-ghost use Rattle.pg_base.specs.Outside.{HasCause, Rose, told};
+ghost use Rattle.pg_base.specs.Outside.{HasCause, told};
 ghost use Rattle.pg_base.specs.Tokens.{word};
 ghost use Rattle.proofgame.specs.Script.{is_rfl, script_of, script_of_words, TookFront, DoorGave};
-ghost use Rattle.proofgame.specs.Asked.{StartsDoor, DoorLists};
+ghost use Rattle.proofgame.specs.Asked.{StartsDoor, DoorLists, DoorFailed};
 
 use pg_base::{
     Door, Link, OutFault, Place, Sink, Source, Token, TokenKind, TokensFault, tokens_of,
@@ -84,8 +84,10 @@ fn read_script<L: Link>(alloc: Global, link: &mut L) -> Result<Vec<u8>, OutFault
 pub fn script_at<D: Door>(alloc: Global, door: &mut D) -> Result<Vec<u8>, OutFault>
     ensures script { IfOk result (λ script. DoorGave (D.coming door.old) script.items) }
     ensures places { StartsDoor (D.places door.old) (D.places door.new) result }
-    ensures lists { DoorLists (D.coming door.old) (D.coming door.new) (D.finished door.old) (D.finished door.new) result }
-    ensures failed { result ≡ Err Failed → Rose (D.faults door.old) (D.faults door.new) ⊎ Rose (D.given door.new).0 (D.ended door.new).0 }
+    ensures lists { DoorLists (D.coming door.old) (D.coming door.new)
+        (D.finished door.old) (D.finished door.new) result }
+    ensures failed { result ≡ Err Failed
+        → DoorFailed (D.faults door.old) (D.faults door.new) (D.given door.new) (D.ended door.new) }
 {
     door.start(Place::Standard)?;
     let Some(mut conn) = door.next()? else {
