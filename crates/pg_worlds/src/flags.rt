@@ -1,0 +1,114 @@
+// Sets of numbers as flags: flag k tells whether k is in the set, and past the end there are none.
+ghost use Rattle.std.specs.Prelude.{◌≡◌, ◌<◌, ◌≤◌, ℕ, ◌||◌, ◌&&◌, not, true, false, length, vec_len, slice_set, OnOk, ◌==◌};
+ghost use Rattle.std.specs.List.{list_any, list_all};
+ghost use Rattle.pg_worlds.specs.Flags.{flag};
+
+use crate::tactic_name::TacticName;
+use std::alloc::AllocError;
+
+// What has a number by which it is kept in a set.
+pub(crate) trait Numbered: Copy {
+    ghost number_of: { Self → ℕ };
+
+    fn number(self) -> usize
+        ensures { result ≡ number_of self };
+}
+
+impl Numbered for u16 {
+    ghost number_of = { λ n. n };
+
+    fn number(self) -> usize {
+        self as usize
+    }
+}
+
+impl Numbered for u32 {
+    ghost number_of = { λ n. n };
+
+    fn number(self) -> usize {
+        self as usize
+    }
+}
+
+impl Numbered for TacticName {
+    ghost use Rattle.pg_worlds.specs.Moves.{place_of};
+
+    ghost number_of = { place_of };
+
+    fn number(self) -> usize {
+        self.place()
+    }
+}
+
+// Whether the flag of this number stands.
+pub(crate) fn has_flag(flags: &[bool], number: usize) -> bool
+    ensures { result ≡ flag flags.now number }
+{
+    number < flags.len() && flags[number]
+}
+
+// Whether the flag of each of these worlds stands.
+pub(crate) fn has_all_flags(flags: &[bool], worlds: &[u16]) -> bool
+    ensures { result ≡ list_all (flag flags.now) worlds.now }
+{
+    worlds.iter().all(|w| has_flag(flags, *w as usize))
+}
+
+// Sets the flag of each of these.
+pub(crate) fn add_all<T: Numbered>(flags: &mut [bool], names: &[T])
+    requires { (k : ℕ) → list_any (λ x. T.number_of x == k) names.now ≡ true → k < length flags.old }
+    ensures { (k : ℕ) → flag flags.new k ≡ (flag flags.old k || list_any (λ x. T.number_of x == k) names.now) }
+{
+    for name in names {
+        flags[name.number()] = true;
+    }
+}
+
+// Takes the flag of each of these away.
+pub(crate) fn remove_all<T: Numbered>(flags: &mut [bool], names: &[T])
+    ensures { (k : ℕ) → flag flags.new k ≡ (flag flags.old k && not (list_any (λ x. T.number_of x == k) names.now)) }
+{
+    for name in names {
+        let number = name.number();
+        if number < flags.len() {
+            flags[number] = false;
+        }
+    }
+}
+
+// Puts into `kept`, whose flags are down, the flags that are named.
+pub(crate) fn keep_named<T: Numbered>(flags: &[bool], names: &[T], kept: &mut [bool])
+    requires room { length kept.old ≡ length flags.now }
+    requires down { (k : ℕ) → flag kept.old k ≡ false }
+    ensures { (k : ℕ) → flag kept.new k ≡ (flag flags.now k && list_any (λ x. T.number_of x == k) names.now) }
+{
+    for name in names {
+        let number = name.number();
+        if has_flag(flags, number) {
+            kept[number] = true;
+        }
+    }
+}
+
+// Makes room for the flags of these, which stay down.
+pub(crate) fn make_room<T: Numbered>(flags: &mut Vec<bool>, names: &[T]) -> Result<(), AllocError>
+    ensures same { (k : ℕ) → flag flags.new.items k ≡ flag flags.old.items k }
+    ensures room { OnOk result ((k : ℕ) → list_any (λ x. T.number_of x == k) names.now ≡ true → k < vec_len flags.new) }
+{
+    for name in names {
+        lengthen(flags, name.number())?;
+    }
+    Ok(())
+}
+
+// Makes room for the flag of this number, which stays as it is.
+fn lengthen(flags: &mut Vec<bool>, number: usize) -> Result<(), AllocError>
+    ensures same { (k : ℕ) → flag flags.new.items k ≡ flag flags.old.items k }
+    ensures longer { vec_len flags.old ≤ vec_len flags.new }
+    ensures room { OnOk result (number < vec_len flags.new) }
+{
+    while flags.len() <= number {
+        flags.push(false)?;
+    }
+    Ok(())
+}

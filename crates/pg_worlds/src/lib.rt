@@ -1,0 +1,13 @@
+//! The order of worlds, which levels are open, and which moves and theorems a player has in a level.
+#![tactic(auto)]
+
+
+mod flags;
+mod graph;
+
+mod tactic_name;
+
+
+pub use graph::{Graph, WorldFault};
+
+pub use tactic_name::TacticName;
