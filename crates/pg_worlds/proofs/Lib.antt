@@ -1,1 +1,3 @@
 pub mod Flagged
+pub mod Rounds
+pub mod Standing

@@ -31,10 +31,17 @@ IsFirstBelow n test w = (w < n) × IsTrue (test w) × ((v : ℕ) → v < w → t
 abbrev pub could_stand : Worlds → (ℕ → Bool) → ℕ → Bool
 could_stand g stands w = not (stands w) && list_all stands (needs_of g w)
 
+abbrev pub HasEveryWorld : Worlds → List ℕ → Type 0
+HasEveryWorld g ws = (w : ℕ) → w < world_count g → IsTrue (has ws w)
+
+-- at each place stands the first world in file order that could stand behind those before it
+abbrev pub IsFirstEachTime : Worlds → List ℕ → Type 0
+IsFirstEachTime g order = EachIndex order (λ i. IsFirstBelow (world_count g) (could_stand g (has (take i order))) (slice_index order i))
+
 -- every world is in the list, and at each place stands the first world in file order that could stand behind those before it
 pub record IsWorldOrder (g : Worlds) (order : List ℕ) : Type 0 where
-  pub every_world : (w : ℕ) → w < world_count g → IsTrue (has order w)
-  pub first_each_time : EachIndex order (λ i. IsFirstBelow (world_count g) (could_stand g (has (take i order))) (slice_index order i))
+  pub every_world : HasEveryWorld g order
+  pub first_each_time : IsFirstEachTime g order
 
 -- a list of worlds, each behind all that it needs
 abbrev pub IsBehindNeeds : Worlds → List ℕ → Type 0
@@ -46,15 +53,21 @@ CanStand g w = (ws : List ℕ) × IsBehindNeeds g ws × IsTrue (has ws w)
 
 -- no such list has every world
 abbrev pub HasNoOrder : Worlds → Type 0
-HasNoOrder g = (ws : List ℕ) → IsBehindNeeds g ws → ((w : ℕ) → w < world_count g → IsTrue (has ws w)) → ⊥
+HasNoOrder g = (ws : List ℕ) → IsBehindNeeds g ws → HasEveryWorld g ws → ⊥
 
--- From the first world that can't stand, the first need that can't stand is followed until a world comes twice.
+-- From `start` the first need that can't stand is followed until a world comes twice.
 -- The worlds met are `lead` and then `loop`, no two of them are the same, and the last one leads back to the first of `loop`.
-pub record IsLoop (g : Worlds) (loop : List ℕ) : Type 0 where
-  pub can : ℕ → Bool
+pub record IsLoopFrom (g : Worlds) (can : ℕ → Bool) (start : ℕ) (loop : List ℕ) : Type 0 where
   pub lead : List ℕ
-  pub decides : (w : ℕ) → w < world_count g → IsTrue (can w) ↔ CanStand g w
   pub some_world : 0 < length loop
-  pub starts : IsFirstBelow (world_count g) (λ w. not (can w)) (slice_index (lead ++ loop) 0)
+  pub starts : slice_index (lead ++ loop) 0 ≡ start
   pub follows : EachIndex (lead ++ loop) (λ i. find (λ v. not (can v)) (needs_of g (slice_index (lead ++ loop) i)) ≡ Some (slice_index (lead ++ loop ++ loop) (i + 1)))
   pub met_once : (i j : ℕ) → i < j → j < length (lead ++ loop) → slice_index (lead ++ loop) i ≢ slice_index (lead ++ loop) j
+
+-- the loop that is met from the first world that can't stand; `can` tells which worlds can
+pub record IsLoop (g : Worlds) (loop : List ℕ) : Type 0 where
+  pub can : ℕ → Bool
+  pub decides : (w : ℕ) → w < world_count g → IsTrue (can w) ↔ CanStand g w
+  pub start : ℕ
+  pub first : IsFirstBelow (world_count g) (λ w. not (can w)) start
+  pub met : IsLoopFrom g can start loop

@@ -1,5 +1,5 @@
 // Sets of numbers as flags: flag k tells whether k is in the set, and past the end there are none.
-ghost use Rattle.std.specs.Prelude.{◌≡◌, ◌<◌, ◌≤◌, ℕ, ◌||◌, ◌&&◌, not, true, false, length, vec_len, slice_set, OnOk, ◌==◌};
+ghost use Rattle.std.specs.Prelude.{◌≡◌, ◌<◌, ◌≤◌, ℕ, ◌||◌, ◌&&◌, not, true, false, length, vec_len, slice_set, OnOk, ◌==◌, find};
 ghost use Rattle.std.specs.List.{list_any, list_all};
 ghost use Rattle.pg_worlds.specs.Flags.{flag};
 
@@ -52,6 +52,13 @@ pub(crate) fn has_all_flags(flags: &[bool], worlds: &[u16]) -> bool
     ensures { result ≡ list_all (flag flags.now) worlds.now }
 {
     worlds.iter().all(|w| has_flag(flags, *w as usize))
+}
+
+// The first of these worlds whose flag doesn't stand.
+pub(crate) fn first_without_flag(flags: &[bool], worlds: &[u16]) -> Option<u16>
+    ensures { result ≡ find (λ w. not (flag flags.now w)) worlds.now }
+{
+    worlds.iter().copied().find(|w| !has_flag(flags, *w as usize))
 }
 
 // Sets the flag of each of these.
