@@ -1,3 +1,4 @@
 pub mod Flagged
+pub mod Reached
 pub mod Rounds
 pub mod Standing

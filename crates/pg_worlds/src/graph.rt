@@ -6,7 +6,7 @@ ghost use Rattle.pg_worlds.specs.Flags.{flag, has};
 ghost use Rattle.pg_worlds.specs.Worlds.{could_stand, needs_of, world_count, worlds_of, IsFirstBelow, IsFirstEachTime, IsGraph, IsLoopFrom, IsWorldOrder};
 ghost use Rattle.pg_worlds.specs.Fault.{IsOrderFault};
 
-use crate::flags::{first_without_flag, has_all_flags, has_flag};
+use crate::flags::{add_all, first_without_flag, has_all_flags, has_flag};
 use std::alloc::{AllocError, Global};
 use std::marker::Model;
 use thiserror::Error;
@@ -70,10 +70,22 @@ impl Graph {
 
     /// The worlds that this world needs, by number.
     pub(crate) fn needs(&self, world: u16) -> &[u16]
-        requires { world < world_count self.now }
-        ensures { result.now ≡ needs_of self.now world }
+        ensures needs { result.now ≡ needs_of self.now world }
+        ensures graph { IsGraph self.now }
     {
-        self.needs[world as usize].as_slice()
+        if (world as usize) < self.needs.len() {
+            self.needs[world as usize].as_slice()
+        } else {
+            &[]
+        }
+    }
+
+    /// Sets the flags of the worlds that this world needs.
+    pub(crate) fn add_needs(&self, world: u16, flags: &mut [bool])
+        requires { length flags.old ≡ 64 }
+        ensures { (k : ℕ) → flag flags.new k ≡ (flag flags.old k || has (needs_of self.now world) k) }
+    {
+        add_all(flags, self.needs(world));
     }
 
     // Whether this world doesn't stand yet and all its needs do.

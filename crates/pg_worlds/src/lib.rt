@@ -1,13 +1,11 @@
 //! The order of worlds, which levels are open, and which moves and theorems a player has in a level.
 #![tactic(auto)]
 
-
+mod course;
 mod flags;
 mod graph;
-
 mod tactic_name;
 
-
+pub use course::{Course, LevelId, LevelItems};
 pub use graph::{Graph, WorldFault};
-
 pub use tactic_name::TacticName;
