@@ -1,4 +1,6 @@
 pub mod Flagged
+pub mod Places
 pub mod Reached
 pub mod Rounds
 pub mod Standing
+pub mod Won

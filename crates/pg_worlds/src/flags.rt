@@ -1,5 +1,5 @@
 // Sets of numbers as flags: flag k tells whether k is in the set, and past the end there are none.
-ghost use Rattle.std.specs.Prelude.{◌≡◌, ◌<◌, ◌≤◌, ℕ, ◌||◌, ◌&&◌, not, true, false, length, vec_len, slice_set, OnOk, ◌==◌, find};
+ghost use Rattle.std.specs.Prelude.{◌≡◌, ◌<◌, ◌≤◌, ℕ, ◌||◌, ◌&&◌, not, true, false, length, vec_len, slice_set, OnOk, OnErr, ◌==◌, find};
 ghost use Rattle.std.specs.List.{list_any, list_all};
 ghost use Rattle.pg_worlds.specs.Flags.{flag};
 
@@ -100,12 +100,39 @@ pub(crate) fn keep_named<T: Numbered>(flags: &[bool], names: &[T], kept: &mut [b
 // Makes room for the flags of these, which stay down.
 pub(crate) fn make_room<T: Numbered>(flags: &mut Vec<bool>, names: &[T]) -> Result<(), AllocError>
     ensures same { (k : ℕ) → flag flags.new.items k ≡ flag flags.old.items k }
+    ensures longer { vec_len flags.old ≤ vec_len flags.new }
     ensures room { OnOk result ((k : ℕ) → list_any (λ x. T.number_of x == k) names.now ≡ true → k < vec_len flags.new) }
 {
     for name in names {
         lengthen(flags, name.number())?;
     }
     Ok(())
+}
+
+// Sets the flag of each of these, for which there is room.
+pub(crate) fn insert_all<T: Numbered>(flags: &mut Vec<bool>, names: &[T])
+    requires { (k : ℕ) → list_any (λ x. T.number_of x == k) names.now ≡ true → k < vec_len flags.old }
+    ensures { (k : ℕ) → flag flags.new.items k ≡ (flag flags.old.items k || list_any (λ x. T.number_of x == k) names.now) }
+{
+    add_all(flags.as_mut_slice(), names);
+}
+
+// Makes room for the flag of each of these, and sets it. Without memory all flags stay.
+pub(crate) fn insert_growing<T: Numbered>(flags: &mut Vec<bool>, names: &[T]) -> Result<(), AllocError>
+    ensures ok { OnOk result ((k : ℕ) → flag flags.new.items k ≡ (flag flags.old.items k || list_any (λ x. T.number_of x == k) names.now)) }
+    ensures err { OnErr result ((k : ℕ) → flag flags.new.items k ≡ flag flags.old.items k) }
+    ensures longer { vec_len flags.old ≤ vec_len flags.new }
+{
+    make_room(flags, names)?;
+    add_all(flags.as_mut_slice(), names);
+    Ok(())
+}
+
+// Takes the flag of each of these away.
+pub(crate) fn take_out<T: Numbered>(flags: &mut Vec<bool>, names: &[T])
+    ensures { (k : ℕ) → flag flags.new.items k ≡ (flag flags.old.items k && not (list_any (λ x. T.number_of x == k) names.now)) }
+{
+    remove_all(flags.as_mut_slice(), names);
 }
 
 // Makes room for the flag of this number, which stays as it is.

@@ -4,8 +4,10 @@
 mod course;
 mod flags;
 mod graph;
+mod inventory;
 mod tactic_name;
 
 pub use course::{Course, LevelId, LevelItems};
 pub use graph::{Graph, WorldFault};
+pub use inventory::{Available, Unlocked, least_available};
 pub use tactic_name::TacticName;
