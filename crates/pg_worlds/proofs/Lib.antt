@@ -1,3 +1,4 @@
+pub mod Earlier
 pub mod Flagged
 pub mod Places
 pub mod Reached

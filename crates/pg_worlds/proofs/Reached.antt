@@ -73,16 +73,17 @@ spread_more g order world at next old needed one ordered h here same so_far =
       ];
     }
 
+-- what is needed is a world
+pub in_range : (g : Worlds) → IsGraph g → (a b : ℕ) → Needs g a b → b < world_count g
+in_range g graph a b (Needs.directly _ e) = graph.in_range a b e
+in_range g graph a b (Needs.through c _ n e) = graph.in_range c b e
+
 -- after the whole pass just the needed worlds are marked
 pub spread_all : (g : Worlds) (order : List ℕ) (world : ℕ) (needed : ℕ → Bool) → IsGraph g → IsWorldOrder g order → IsSpread g order world 0 needed → (k : ℕ) → IsTrue (needed k) ↔ Needs g world k
 spread_all g order world needed graph ordered spread k = (spread.sound k, marked k)
   where
-    in_range : (b : ℕ) → Needs g world b → b < world_count g
-    in_range b (Needs.directly _ e) = graph.in_range world b e
-    in_range b (Needs.through c _ n e) = graph.in_range c b e
-
     marked : (b : ℕ) → Needs g world b → needed b ≡ true
     marked b (Needs.directly _ e) = spread.base b e
     marked b (Needs.through c _ n e) =
-        let r = has_place order c (ordered.every_world c (in_range c n)) in
+        let r = has_place order c (ordered.every_world c (in_range g graph world c n)) in
         spread.closed r.0 (omega arith) r.1 (ap needed r.2 ∙ marked c n) b (ap (λ w. has (needs_of g w) b) r.2 ∙ e)

@@ -1,5 +1,5 @@
 // The levels in their order, and which of them are open.
-ghost use Rattle.std.specs.Prelude.{◌≡◌, ◌↔◌, ◌<◌, ◌≤◌, ◌⊎◌, ℕ, length, vec_len, IfOk, IsTrue, MatchOption};
+ghost use Rattle.std.specs.Prelude.{◌≡◌, ◌↔◌, ◌<◌, ◌≤◌, ◌⊎◌, ℕ, length, vec_len, IfOk, IsTrue, MatchOption, IfSome};
 ghost use Rattle.pg_worlds.specs.Flags.{flag};
 
 use crate::flags::has_flag;
@@ -88,7 +88,8 @@ impl Course {
 
     // Which worlds this world needs, directly or through others.
     fn needed(&self, world: u16) -> [bool; MOST_WORLDS]
-        ensures { (k : ℕ) → IsTrue (flag result k) ↔ Needs self.now.worlds world k }
+        ensures needed { (k : ℕ) → IsTrue (flag result k) ↔ Needs self.now.worlds world k }
+        ensures plan { IsPlan self.now }
     {
         let mut needed = no_worlds();
         self.graph.add_needs(world, &mut needed);
@@ -127,12 +128,13 @@ impl Course {
     pub fn first_missing(&self, won: &[bool], level: LevelId) -> Option<LevelId>
         requires won { length won.now ≡ length self.now.levels }
         requires level { level.0 < length self.now.levels }
-        ensures { MatchOption result (IsOpen self.now won.now level.0) (λ missing. IsFirstMissing self.now won.now level.0 missing.0) }
+        ensures first { MatchOption result (IsOpen self.now won.now level.0) (λ missing. IsFirstMissing self.now won.now level.0 missing.0) }
+        ensures earlier { IfSome result (λ missing. missing.0 < level.0) }
     {
         let needed = self.needed(self.items(level.0 as usize).world);
-        for at in 0..self.count() {
-            if !won[at] && self.is_before(&needed, level.0 as usize, at) {
-                return Some(LevelId(at as u16));
+        for at in 0..level.0 {
+            if !won[at as usize] && self.is_before(&needed, level.0 as usize, at as usize) {
+                return Some(LevelId(at));
             }
         }
         None
@@ -141,7 +143,8 @@ impl Course {
     /// One flag for each level: just those levels are won that have to be, before this one is open.
     pub fn least_won(&self, alloc: Global, level: LevelId) -> Result<Vec<bool>, AllocError>
         requires { level.0 < length self.now.levels }
-        ensures { IfOk result (λ won. IsLeastWon self.now level.0 won.items) }
+        ensures least { IfOk result (λ won. IsLeastWon self.now level.0 won.items) }
+        ensures earlier { IfOk result (λ won. (k : ℕ) → IsTrue (flag won.items k) → k < level.0) }
     {
         let needed = self.needed(self.items(level.0 as usize).world);
         let mut won = Vec::new(alloc);

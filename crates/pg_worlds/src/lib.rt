@@ -11,3 +11,6 @@ pub use course::{Course, LevelId, LevelItems};
 pub use graph::{Graph, WorldFault};
 pub use inventory::{Available, Unlocked, least_available};
 pub use tactic_name::TacticName;
+
+#[cfg(test)]
+mod tests;

@@ -33,8 +33,8 @@ loop-at-preserved c =
     let skip : old (slice_index order at) ≡ false = ap old (sym world) ∙ sym c.has_flag.ensures ∙ c.if-has_flag.false in
     (spread_skip c.self.inside.graph order c.args.world at c.loop-at.at old (omega arith) skip c.loop-at.invariant.0, c.loop-at.invariant.1, omega arith)
 
-pub returns : goal.returns
-returns c =
+pub returns-clause-needed : goal.returns-clause-needed
+returns-clause-needed c =
     let g = c.self.inside.graph in
     let order = c.self.inside.order.items in
     let needed = flag c.loop-at.needed in

@@ -1,0 +1,367 @@
+// Words, orders, open levels and inventories of small games.
+ghost use Rattle.std.specs.Prelude.{◌≡◌, ◌<◌, ◌≤◌, ◌++◌, ℕ, length, map, vec_len, replicate, IfOk, IfSome, OnOk, IsTrue, slice_index, slice_index_or, flat_map, take, nat_lt};
+ghost use Rattle.std.specs.List.{list_all};
+ghost use Rattle.pg_worlds.specs.Worlds.{worlds_of, IsGraph};
+ghost use Rattle.pg_worlds.specs.View.{level_of};
+ghost use Rattle.pg_worlds.specs.Course.{Level};
+
+use super::*;
+use std::alloc::{AllocError, Global};
+use std::test::Fail;
+
+// ---- games, of which it is tested that they meet the conditions of `Graph::new` and `Course::new`
+
+fn all_below(numbers: &[u16], count: usize) -> bool
+    ensures { result ≡ list_all (λ v. nat_lt v count) numbers.now }
+{
+    numbers.iter().all(|v| (*v as usize) < count)
+}
+
+fn all_rows_below(rows: &[Vec<u16>], count: usize) -> bool
+    ensures { result ≡ list_all (λ row. list_all (λ v. nat_lt v count) row.items) rows.now }
+{
+    rows.iter().all(|row| all_below(row.as_slice(), count))
+}
+
+fn is_graph(levels: &[u16], needs: &[Vec<u16>]) -> bool
+    ensures { IsTrue result → IsGraph (worlds_of levels.now (map (λ v. v.items) needs.now)) }
+{
+    levels.len() == needs.len() && needs.len() <= 64 && all_rows_below(needs, needs.len())
+}
+
+fn rows(alloc: Global, rows: &[&[u16]]) -> Result<Vec<Vec<u16>>, AllocError> {
+    let mut all = Vec::new(alloc);
+    for row in rows {
+        all.push(row.to_vec(alloc)?)?;
+    }
+    Ok(all)
+}
+
+fn graph(alloc: Global, levels: &[u16], needs: &[&[u16]]) -> Result<Graph, Fail>
+    ensures { IfOk result (λ g. g.levels ≡ levels.now) }
+{
+    let levels = levels.to_vec(alloc)?;
+    let needs = rows(alloc, needs)?;
+    if is_graph(levels.as_slice(), needs.as_slice()) {
+        Ok(Graph::new(levels, needs))
+    } else {
+        Err(Fail::from("no graph"))
+    }
+}
+
+fn push_times(worlds: &mut Vec<u16>, world: u16, times: u16) -> Result<(), AllocError>
+    ensures { OnOk result (worlds.new.items ≡ worlds.old.items ++ replicate times world) }
+{
+    for _ in 0..times {
+        worlds.push(world)?;
+    }
+    Ok(())
+}
+
+fn times_of(levels: &[u16], world: u16) -> u16
+    ensures { result ≡ slice_index levels.now world }
+{
+    if (world as usize) < levels.len() {
+        levels[world as usize]
+    } else {
+        0
+    }
+}
+
+fn level_worlds(alloc: Global, levels: &[u16], order: &[u16]) -> Result<Vec<u16>, AllocError>
+    ensures { IfOk result (λ r. r.items ≡ flat_map (λ w. replicate (slice_index levels.now w) w) order.now) }
+{
+    let mut worlds = Vec::new(alloc);
+    for world in order {
+        push_times(&mut worlds, *world, times_of(levels, *world))?;
+    }
+    Ok(worlds)
+}
+
+fn have_worlds(items: &[LevelItems], worlds: &[u16]) -> bool
+    ensures { IsTrue result → map (λ (l : Level). l.world) (map level_of items.now) ≡ worlds.now }
+{
+    if items.len() != worlds.len() {
+        return false;
+    }
+    for (at, item) in items.iter().enumerate() {
+        if item.world != worlds[at] {
+            return false;
+        }
+    }
+    true
+}
+
+fn course(alloc: Global, levels: &[u16], needs: &[&[u16]], items: Vec<LevelItems>) -> Result<Course, Fail> {
+    let graph = graph(alloc, levels, needs)?;
+    let order = graph.order(alloc)?;
+    let worlds = level_worlds(alloc, levels, order.as_slice())?;
+    if items.len() <= 65_536 && have_worlds(items.as_slice(), worlds.as_slice()) {
+        Ok(Course::new(graph, order, items))
+    } else {
+        Err(Fail::from("no levels in the order of levels"))
+    }
+}
+
+// A level with a sample, of which nothing but its own statement is to be said.
+fn plain(alloc: Global, world: u16, own: u32) -> LevelItems {
+    LevelItems {
+        world,
+        new_tactics: Vec::new(alloc),
+        new_theorems: Vec::new(alloc),
+        own,
+        sampled: true,
+        disabled_tactics: Vec::new(alloc),
+        disabled_theorems: Vec::new(alloc),
+        only_tactics: None,
+        only_theorems: None,
+    }
+}
+
+// ---- orders
+
+fn order_of(alloc: Global, needs: &[&[u16]]) -> Result<Vec<u16>, Fail> {
+    let levels = vec![in alloc; 1; needs.len()]?;
+    Ok(graph(alloc, levels.as_slice(), needs)?.order(alloc)?)
+}
+
+fn loop_of(alloc: Global, needs: &[&[u16]]) -> Result<Vec<u16>, Fail> {
+    let levels = vec![in alloc; 1; needs.len()]?;
+    match graph(alloc, levels.as_slice(), needs)?.order(alloc) {
+        Err(WorldFault::Loop { worlds }) => Ok(worlds),
+        Err(WorldFault::OutOfMemory) => Err(Fail::from("out of memory")),
+        Ok(_) => Err(Fail::from("an order")),
+    }
+}
+
+#[test]
+fn a_world_comes_as_soon_as_its_needs_stand(rt: HostRuntime) -> Result<(), Fail> {
+    let alloc = rt.alloc();
+    assert_eq!(rt; order_of(alloc, [[].as_slice(), [].as_slice()].as_slice())?.as_slice(), [0, 1].as_slice());
+    assert_eq!(rt; order_of(alloc, [[2].as_slice(), [].as_slice(), [].as_slice()].as_slice())?.as_slice(), [1, 2, 0].as_slice());
+    assert_eq!(rt; order_of(alloc, [[1, 3].as_slice(), [3].as_slice(), [].as_slice(), [].as_slice()].as_slice())?.as_slice(), [2, 3, 1, 0].as_slice());
+    Ok(())
+}
+
+#[test]
+fn worlds_that_need_each_other_are_a_loop(rt: HostRuntime) -> Result<(), Fail> {
+    let alloc = rt.alloc();
+    // A needs B and B needs A: the loop is A, B.
+    assert_eq!(rt; loop_of(alloc, [[1].as_slice(), [0].as_slice()].as_slice())?.as_slice(), [0, 1].as_slice());
+    assert_eq!(rt; loop_of(alloc, [[].as_slice(), [1].as_slice()].as_slice())?.as_slice(), [1].as_slice());
+    // Worlds that lead into the loop, and needs that can stand, are no part of it.
+    assert_eq!(rt; loop_of(alloc, [[3, 2].as_slice(), [2].as_slice(), [3, 1].as_slice(), [].as_slice()].as_slice())?.as_slice(), [2, 1].as_slice());
+    Ok(())
+}
+
+// ---- open levels
+
+// Worlds A with levels 0 and 1, B with level 2, and C with level 3; C needs B, and B needs A.
+fn three_worlds(alloc: Global) -> Result<Course, Fail> {
+    let mut items = Vec::new(alloc);
+    items.push(plain(alloc, 0, 10))?;
+    items.push(plain(alloc, 0, 11))?;
+    items.push(plain(alloc, 1, 12))?;
+    items.push(plain(alloc, 2, 13))?;
+    course(alloc, [2, 1, 1].as_slice(), [[].as_slice(), [0].as_slice(), [1].as_slice()].as_slice(), items)
+}
+
+fn missing(course: &Course, won: &[bool], level: u16) -> Result<Option<LevelId>, Fail> {
+    if won.len() != course.count() || level as usize >= course.count() {
+        return Err(Fail::from("no level"));
+    }
+    let missing = course.first_missing(won, LevelId(level));
+    if course.is_open(won, LevelId(level)) == missing.is_none() {
+        Ok(missing)
+    } else {
+        Err(Fail::from("open, and a level is missing"))
+    }
+}
+
+#[test]
+fn a_level_is_open_once_all_before_it_are_won(rt: HostRuntime) -> Result<(), Fail> {
+    let game = three_worlds(rt.alloc())?;
+    assert_eq!(rt; missing(&game, [false, false, false, false].as_slice(), 0)?, None);
+    assert_eq!(rt; missing(&game, [false, false, false, false].as_slice(), 1)?, Some(LevelId(0)));
+    assert_eq!(rt; missing(&game, [true, false, false, false].as_slice(), 2)?, Some(LevelId(1)));
+    // C needs A through B.
+    assert_eq!(rt; missing(&game, [true, false, true, false].as_slice(), 3)?, Some(LevelId(1)));
+    assert_eq!(rt; missing(&game, [false, false, false, false].as_slice(), 3)?, Some(LevelId(0)));
+    assert_eq!(rt; missing(&game, [true, true, true, false].as_slice(), 3)?, None);
+    Ok(())
+}
+
+#[test]
+fn the_least_won_levels_are_those_before(rt: HostRuntime) -> Result<(), Fail> {
+    let game = three_worlds(rt.alloc())?;
+    assert_eq!(rt; game.count(), 4);
+    assert_eq!(rt; game.least_won(rt.alloc(), LevelId(2))?.as_slice(), [true, true, false, false].as_slice());
+    assert_eq!(rt; game.least_won(rt.alloc(), LevelId(1))?.as_slice(), [true, false, false, false].as_slice());
+    Ok(())
+}
+
+// ---- inventories
+
+// One world whose levels say:
+// 0: new rw, rfl, 2 and 3
+// 1: disabled rw and 2
+// 2: only rfl and exact, 3 and 4, where exact and 4 are not unlocked yet
+// 3: new exact and 4, without a sample
+// 4: nothing
+// 5: new symm and 5, disabled rfl and 3, only rfl, symm, exact, 3, 5 and 10
+// The own statements are 10 to 15.
+fn rules(alloc: Global) -> Result<Course, Fail> {
+    let mut zero = plain(alloc, 0, 10);
+    zero.new_tactics = vec![in alloc; TacticName::Rw, TacticName::Rfl]?;
+    zero.new_theorems = vec![in alloc; 2, 3]?;
+    let mut one = plain(alloc, 0, 11);
+    one.disabled_tactics = vec![in alloc; TacticName::Rw]?;
+    one.disabled_theorems = vec![in alloc; 2]?;
+    let mut two = plain(alloc, 0, 12);
+    two.only_tactics = Some(vec![in alloc; TacticName::Rfl, TacticName::Exact]?);
+    two.only_theorems = Some(vec![in alloc; 3, 4]?);
+    let mut three = plain(alloc, 0, 13);
+    three.new_tactics = vec![in alloc; TacticName::Exact]?;
+    three.new_theorems = vec![in alloc; 4]?;
+    three.sampled = false;
+    let mut five = plain(alloc, 0, 15);
+    five.new_tactics = vec![in alloc; TacticName::Symm]?;
+    five.new_theorems = vec![in alloc; 5]?;
+    five.disabled_tactics = vec![in alloc; TacticName::Rfl]?;
+    five.disabled_theorems = vec![in alloc; 3]?;
+    five.only_tactics = Some(vec![in alloc; TacticName::Rfl, TacticName::Symm, TacticName::Exact]?);
+    five.only_theorems = Some(vec![in alloc; 3, 5, 10]?);
+    let mut items = Vec::new(alloc);
+    items.push(zero)?;
+    items.push(one)?;
+    items.push(two)?;
+    items.push(three)?;
+    items.push(plain(alloc, 0, 14))?;
+    items.push(five)?;
+    course(alloc, [6].as_slice(), [[].as_slice()].as_slice(), items)
+}
+
+fn unlocked(alloc: Global, game: &Course, won: &[u16]) -> Result<Unlocked, Fail> {
+    let mut unlocked = Unlocked::new(alloc)?;
+    for level in won {
+        if *level as usize >= game.count() {
+            return Err(Fail::from("no level"));
+        }
+        unlocked.add_won(alloc, game, LevelId(*level))?;
+    }
+    Ok(unlocked)
+}
+
+fn available(alloc: Global, game: &Course, won: &[u16], level: u16) -> Result<Available, Fail> {
+    if level as usize >= game.count() {
+        return Err(Fail::from("no level"));
+    }
+    Ok(unlocked(alloc, game, won)?.available(alloc, game, LevelId(level))?)
+}
+
+fn least(alloc: Global, game: &Course, level: u16) -> Result<Available, Fail> {
+    if level as usize >= game.count() {
+        return Err(Fail::from("no level"));
+    }
+    Ok(least_available(alloc, game, LevelId(level))?)
+}
+
+fn moves(alloc: Global, inventory: &Available) -> Result<Vec<TacticName>, AllocError> {
+    let mut all = Vec::new(alloc);
+    for name in TacticName::ALL {
+        if inventory.has_tactic(name) {
+            all.push(name)?;
+        }
+    }
+    Ok(all)
+}
+
+fn theorems(alloc: Global, inventory: &Available) -> Result<Vec<u32>, AllocError> {
+    let mut all = Vec::new(alloc);
+    for id in 0..20 {
+        if inventory.has_theorem(id) {
+            all.push(id)?;
+        }
+    }
+    Ok(all)
+}
+
+#[test]
+fn what_won_levels_unlock_is_available(rt: HostRuntime) -> Result<(), Fail> {
+    let alloc = rt.alloc();
+    let game = rules(alloc)?;
+    // A level that was shown and isn't won gives nothing.
+    let none = available(alloc, &game, [].as_slice(), 4)?;
+    assert_eq!(rt; moves(alloc, &none)?.as_slice(), [].as_slice());
+    assert_eq!(rt; theorems(alloc, &none)?.as_slice(), [].as_slice());
+    let two = available(alloc, &game, [0, 3].as_slice(), 4)?;
+    assert_eq!(rt; moves(alloc, &two)?.as_slice(), [TacticName::Rfl, TacticName::Rw, TacticName::Exact].as_slice());
+    assert_eq!(rt; theorems(alloc, &two)?.as_slice(), [2, 3, 4, 10, 13].as_slice());
+    Ok(())
+}
+
+#[test]
+fn a_level_has_its_own_new_items_and_never_its_statement(rt: HostRuntime) -> Result<(), Fail> {
+    let alloc = rt.alloc();
+    let game = rules(alloc)?;
+    let first = available(alloc, &game, [].as_slice(), 0)?;
+    assert_eq!(rt; moves(alloc, &first)?.as_slice(), [TacticName::Rfl, TacticName::Rw].as_slice());
+    assert_eq!(rt; theorems(alloc, &first)?.as_slice(), [2, 3].as_slice());
+    let again = available(alloc, &game, [0, 1].as_slice(), 0)?;
+    assert_eq!(rt; theorems(alloc, &again)?.as_slice(), [2, 3, 11].as_slice());
+    assert!(rt; unlocked(alloc, &game, [0].as_slice())?.has_theorem(10));
+    Ok(())
+}
+
+#[test]
+fn disabled_and_only_hold_in_their_level_alone(rt: HostRuntime) -> Result<(), Fail> {
+    let alloc = rt.alloc();
+    let game = rules(alloc)?;
+    let disabled = available(alloc, &game, [0].as_slice(), 1)?;
+    assert_eq!(rt; moves(alloc, &disabled)?.as_slice(), [TacticName::Rfl].as_slice());
+    assert_eq!(rt; theorems(alloc, &disabled)?.as_slice(), [3, 10].as_slice());
+    // What an Only command names and isn't unlocked isn't given.
+    let only = available(alloc, &game, [0, 1].as_slice(), 2)?;
+    assert_eq!(rt; moves(alloc, &only)?.as_slice(), [TacticName::Rfl].as_slice());
+    assert_eq!(rt; theorems(alloc, &only)?.as_slice(), [3].as_slice());
+    let after = available(alloc, &game, [0, 1, 2].as_slice(), 3)?;
+    assert_eq!(rt; moves(alloc, &after)?.as_slice(), [TacticName::Rfl, TacticName::Rw, TacticName::Exact].as_slice());
+    assert_eq!(rt; theorems(alloc, &after)?.as_slice(), [2, 3, 4, 10, 11, 12].as_slice());
+    Ok(())
+}
+
+#[test]
+fn new_disabled_and_only_work_together(rt: HostRuntime) -> Result<(), Fail> {
+    let alloc = rt.alloc();
+    let game = rules(alloc)?;
+    let all = available(alloc, &game, [0, 3].as_slice(), 5)?;
+    assert_eq!(rt; moves(alloc, &all)?.as_slice(), [TacticName::Exact, TacticName::Symm].as_slice());
+    assert_eq!(rt; theorems(alloc, &all)?.as_slice(), [5, 10].as_slice());
+    Ok(())
+}
+
+#[test]
+fn the_least_leaves_out_statements_without_a_sample(rt: HostRuntime) -> Result<(), Fail> {
+    let alloc = rt.alloc();
+    let game = rules(alloc)?;
+    let before = least(alloc, &game, 4)?;
+    assert_eq!(rt; moves(alloc, &before)?.as_slice(), [TacticName::Rfl, TacticName::Rw, TacticName::Exact].as_slice());
+    assert_eq!(rt; theorems(alloc, &before)?.as_slice(), [2, 3, 4, 10, 11, 12].as_slice());
+    assert!(rt; available(alloc, &game, [0, 1, 2, 3].as_slice(), 4)?.has_theorem(13));
+    Ok(())
+}
+
+// ---- words
+
+#[test]
+fn each_word_names_its_move(rt: HostRuntime) {
+    let words = "rfl rw induction intro exact apply cases left right constructor use symm exfalso have revert by_cases";
+    let mut rest = words.split(' ');
+    for name in TacticName::ALL {
+        assert_eq!(rt; rest.next(), Some(name.word()));
+        assert_eq!(rt; TacticName::named(name.word()), Some(name));
+    }
+    assert_eq!(rt; TacticName::named("simp"), None);
+    assert_eq!(rt; TacticName::named("Rfl"), None);
+    assert_eq!(rt; TacticName::named(""), None);
+}
