@@ -36,14 +36,14 @@ later_place times (w ∷ ws) x y l h =
     ]
 
 -- a world stands behind all that it needs, directly or through others
-behind_all : (g : Worlds) (order : List ℕ) → IsGraph g → IsWorldOrder g order → (p q a b : ℕ) → p ≤ q → q < length order → slice_index order p ≡ a → slice_index order q ≡ b → Needs g a b → ⊥
-behind_all g order graph ordered p q a b l h is_a is_b (Needs.directly _ e) =
+behind_all : (g : Worlds) (order : List ℕ) → IsGraph g → IsWorldOrder g order → (p a : ℕ) → slice_index order p ≡ a → (q b : ℕ) → p ≤ q → q < length order → slice_index order q ≡ b → Needs g a b → ⊥
+behind_all g order graph ordered p a is_a q b l h is_b (Needs.directly _ e) =
     apart g order ordered p q l h (ap (λ w. has (needs_of g w) (slice_index order q)) is_a ∙ ap (has (needs_of g a)) is_b ∙ e)
-behind_all g order graph ordered p q a b l h is_a is_b (Needs.through c _ n e) =
+behind_all g order graph ordered p a is_a q b l h is_b (Needs.through c _ n e) =
     let r = has_place order c (ordered.every_world c (in_range g graph a c n)) in
     elim (cases_lt r.0 p) [
       | inl before ↦ apart g order ordered r.0 q (omega arith) h (ap (λ w. has (needs_of g w) (slice_index order q)) r.2 ∙ ap (has (needs_of g c)) is_b ∙ e)
-      | inr after ↦ behind_all g order graph ordered p r.0 a c after r.1 is_a r.2 n
+      | inr after ↦ behind_all g order graph ordered p a is_a r.0 c after r.1 r.2 n
     ]
 
 pub earlier : (p : Plan) → IsPlan p → (level k : ℕ) → level < length p.levels → IsBefore p level k → k < level
@@ -61,6 +61,6 @@ earlier p plan level k h before =
             let r = later_place times p.order level k more (omega (arith, before.0)) in
             let at : (i : ℕ) → i < length p.levels → slice_index flat i ≡ world_of p i =
               λ i b. sym (ap (λ (xs : List ℕ). slice_index xs i) plan.by_world) ∙ get_or-map (λ (l : Level). l.world) p.levels i no_level 0 b in
-            absurd (behind_all p.worlds p.order plan.graph plan.ordered r.0 r.1 (world_of p level) (world_of p k) r.2 r.3 (r.4 ∙ at level h) (r.5 ∙ at k before.0) needed)
+            absurd (behind_all p.worlds p.order plan.graph plan.ordered r.0 (world_of p level) (r.4 ∙ at level h) r.1 (world_of p k) r.2 r.3 (r.5 ∙ at k before.0) needed)
         ]
     ]
