@@ -103,13 +103,13 @@ fn course(alloc: Global, levels: &[u16], needs: &[&[u16]], items: Vec<LevelItems
     }
 }
 
-// A level with a sample, of which nothing but its own statement is to be said.
-fn plain(alloc: Global, world: u16, own: u32) -> LevelItems {
+// A level with a sample that says nothing.
+fn plain(alloc: Global, world: u16) -> LevelItems {
     LevelItems {
         world,
         new_tactics: Vec::new(alloc),
         new_theorems: Vec::new(alloc),
-        own,
+        own: 0,
         sampled: true,
         disabled_tactics: Vec::new(alloc),
         disabled_theorems: Vec::new(alloc),
@@ -159,85 +159,134 @@ fn worlds_that_need_each_other_are_a_loop(rt: HostRuntime) -> Result<(), Fail> {
 // Worlds A with levels 0 and 1, B with level 2, and C with level 3; C needs B, and B needs A.
 fn three_worlds(alloc: Global) -> Result<Course, Fail> {
     let mut items = Vec::new(alloc);
-    items.push(plain(alloc, 0, 10))?;
-    items.push(plain(alloc, 0, 11))?;
-    items.push(plain(alloc, 1, 12))?;
-    items.push(plain(alloc, 2, 13))?;
+    for world in [0, 0, 1, 2] {
+        items.push(plain(alloc, world))?;
+    }
     course(alloc, [2, 1, 1].as_slice(), [[].as_slice(), [0].as_slice(), [1].as_slice()].as_slice(), items)
 }
 
-fn missing(course: &Course, won: &[bool], level: u16) -> Result<Option<LevelId>, Fail> {
-    if won.len() != course.count() || level as usize >= course.count() {
+// The number of the first missing level, where these levels are won; None where the level is open.
+fn missing(alloc: Global, won: &[bool], level: u16) -> Result<Option<u16>, Fail> {
+    let game = three_worlds(alloc)?;
+    if won.len() != game.count() || level as usize >= game.count() {
         return Err(Fail::from("no level"));
     }
-    let missing = course.first_missing(won, LevelId(level));
-    if course.is_open(won, LevelId(level)) == missing.is_none() {
-        Ok(missing)
+    let missing = game.first_missing(won, LevelId(level));
+    if game.is_open(won, LevelId(level)) == missing.is_none() {
+        Ok(missing.map(|id| id.0))
     } else {
         Err(Fail::from("open, and a level is missing"))
     }
 }
 
+fn least_won(alloc: Global, level: u16) -> Result<Vec<bool>, Fail> {
+    let game = three_worlds(alloc)?;
+    if level as usize >= game.count() {
+        return Err(Fail::from("no level"));
+    }
+    Ok(game.least_won(alloc, LevelId(level))?)
+}
+
 #[test]
 fn a_level_is_open_once_all_before_it_are_won(rt: HostRuntime) -> Result<(), Fail> {
-    let game = three_worlds(rt.alloc())?;
-    assert_eq!(rt; missing(&game, [false, false, false, false].as_slice(), 0)?, None);
-    assert_eq!(rt; missing(&game, [false, false, false, false].as_slice(), 1)?, Some(LevelId(0)));
-    assert_eq!(rt; missing(&game, [true, false, false, false].as_slice(), 2)?, Some(LevelId(1)));
+    let alloc = rt.alloc();
+    assert_eq!(rt; missing(alloc, [false, false, false, false].as_slice(), 0)?, None);
+    assert_eq!(rt; missing(alloc, [false, false, false, false].as_slice(), 1)?, Some(0));
+    assert_eq!(rt; missing(alloc, [true, false, false, false].as_slice(), 2)?, Some(1));
     // C needs A through B.
-    assert_eq!(rt; missing(&game, [true, false, true, false].as_slice(), 3)?, Some(LevelId(1)));
-    assert_eq!(rt; missing(&game, [false, false, false, false].as_slice(), 3)?, Some(LevelId(0)));
-    assert_eq!(rt; missing(&game, [true, true, true, false].as_slice(), 3)?, None);
+    assert_eq!(rt; missing(alloc, [true, false, true, false].as_slice(), 3)?, Some(1));
+    assert_eq!(rt; missing(alloc, [false, false, false, false].as_slice(), 3)?, Some(0));
+    assert_eq!(rt; missing(alloc, [true, true, true, false].as_slice(), 3)?, None);
     Ok(())
 }
 
 #[test]
 fn the_least_won_levels_are_those_before(rt: HostRuntime) -> Result<(), Fail> {
-    let game = three_worlds(rt.alloc())?;
-    assert_eq!(rt; game.count(), 4);
-    assert_eq!(rt; game.least_won(rt.alloc(), LevelId(2))?.as_slice(), [true, true, false, false].as_slice());
-    assert_eq!(rt; game.least_won(rt.alloc(), LevelId(1))?.as_slice(), [true, false, false, false].as_slice());
+    let alloc = rt.alloc();
+    assert_eq!(rt; least_won(alloc, 2)?.as_slice(), [true, true, false, false].as_slice());
+    assert_eq!(rt; least_won(alloc, 1)?.as_slice(), [true, false, false, false].as_slice());
     Ok(())
 }
 
 // ---- inventories
 
-// One world whose levels say:
-// 0: new rw, rfl, 2 and 3
-// 1: disabled rw and 2
-// 2: only rfl and exact, 3 and 4, where exact and 4 are not unlocked yet
-// 3: new exact and 4, without a sample
-// 4: nothing
-// 5: new symm and 5, disabled rfl and 3, only rfl, symm, exact, 3, 5 and 10
-// The own statements are 10 to 15.
-fn rules(alloc: Global) -> Result<Course, Fail> {
-    let mut zero = plain(alloc, 0, 10);
-    zero.new_tactics = vec![in alloc; TacticName::Rw, TacticName::Rfl]?;
-    zero.new_theorems = vec![in alloc; 2, 3]?;
-    let mut one = plain(alloc, 0, 11);
-    one.disabled_tactics = vec![in alloc; TacticName::Rw]?;
-    one.disabled_theorems = vec![in alloc; 2]?;
-    let mut two = plain(alloc, 0, 12);
-    two.only_tactics = Some(vec![in alloc; TacticName::Rfl, TacticName::Exact]?);
-    two.only_theorems = Some(vec![in alloc; 3, 4]?);
-    let mut three = plain(alloc, 0, 13);
-    three.new_tactics = vec![in alloc; TacticName::Exact]?;
-    three.new_theorems = vec![in alloc; 4]?;
-    three.sampled = false;
-    let mut five = plain(alloc, 0, 15);
-    five.new_tactics = vec![in alloc; TacticName::Symm]?;
-    five.new_theorems = vec![in alloc; 5]?;
-    five.disabled_tactics = vec![in alloc; TacticName::Rfl]?;
-    five.disabled_theorems = vec![in alloc; 3]?;
-    five.only_tactics = Some(vec![in alloc; TacticName::Rfl, TacticName::Symm, TacticName::Exact]?);
-    five.only_theorems = Some(vec![in alloc; 3, 5, 10]?);
+#[derive(Clone, Copy)]
+struct Named<'a> {
+    tactics: &'a [TacticName],
+    theorems: &'a [u32],
+}
+
+fn names<'a>(tactics: &'a [TacticName], theorems: &'a [u32]) -> Named<'a> {
+    Named { tactics, theorems }
+}
+
+fn moves_named(alloc: Global, only: Option<Named<'_>>) -> Result<Option<Vec<TacticName>>, AllocError> {
+    match only {
+        Some(named) => Ok(Some(named.tactics.to_vec(alloc)?)),
+        None => Ok(None),
+    }
+}
+
+fn theorems_named(alloc: Global, only: Option<Named<'_>>) -> Result<Option<Vec<u32>>, AllocError> {
+    match only {
+        Some(named) => Ok(Some(named.theorems.to_vec(alloc)?)),
+        None => Ok(None),
+    }
+}
+
+// A level of the first world, with what its New, Disabled and Only commands name.
+fn level(
+    alloc: Global,
+    own: u32,
+    sampled: bool,
+    new: Named<'_>,
+    disabled: Named<'_>,
+    only: Option<Named<'_>>,
+) -> Result<LevelItems, AllocError> {
+    Ok(LevelItems {
+        world: 0,
+        new_tactics: new.tactics.to_vec(alloc)?,
+        new_theorems: new.theorems.to_vec(alloc)?,
+        own,
+        sampled,
+        disabled_tactics: disabled.tactics.to_vec(alloc)?,
+        disabled_theorems: disabled.theorems.to_vec(alloc)?,
+        only_tactics: moves_named(alloc, only)?,
+        only_theorems: theorems_named(alloc, only)?,
+    })
+}
+
+// Level 0: new rw, rfl, 2 and 3. Level 1: disabled rw and 2. Level 2: only rfl and exact, 3 and 4, where exact and 4
+// are not unlocked yet. The own statements are 10, 11 and 12.
+fn first_levels(alloc: Global) -> Result<Vec<LevelItems>, AllocError> {
+    let none = names([].as_slice(), [].as_slice());
     let mut items = Vec::new(alloc);
-    items.push(zero)?;
-    items.push(one)?;
-    items.push(two)?;
-    items.push(three)?;
-    items.push(plain(alloc, 0, 14))?;
-    items.push(five)?;
+    let new = names([TacticName::Rw, TacticName::Rfl].as_slice(), [2, 3].as_slice());
+    items.push(level(alloc, 10, true, new, none, None)?)?;
+    let disabled = names([TacticName::Rw].as_slice(), [2].as_slice());
+    items.push(level(alloc, 11, true, none, disabled, None)?)?;
+    let only = names([TacticName::Rfl, TacticName::Exact].as_slice(), [3, 4].as_slice());
+    items.push(level(alloc, 12, true, none, none, Some(only))?)?;
+    Ok(items)
+}
+
+// Level 3: new exact and 4, without a sample. Level 4: nothing. Level 5: new symm and 5, disabled rfl and 3, only rfl,
+// symm, exact, 3, 5 and 10. The own statements are 13, 14 and 15.
+fn push_last_levels(alloc: Global, items: &mut Vec<LevelItems>) -> Result<(), AllocError> {
+    let none = names([].as_slice(), [].as_slice());
+    let new = names([TacticName::Exact].as_slice(), [4].as_slice());
+    items.push(level(alloc, 13, false, new, none, None)?)?;
+    items.push(level(alloc, 14, true, none, none, None)?)?;
+    let own = names([TacticName::Symm].as_slice(), [5].as_slice());
+    let disabled = names([TacticName::Rfl].as_slice(), [3].as_slice());
+    let only = names([TacticName::Rfl, TacticName::Symm, TacticName::Exact].as_slice(), [3, 5, 10].as_slice());
+    items.push(level(alloc, 15, true, own, disabled, Some(only))?)?;
+    Ok(())
+}
+
+fn rules(alloc: Global) -> Result<Course, Fail> {
+    let mut items = first_levels(alloc)?;
+    push_last_levels(alloc, &mut items)?;
     course(alloc, [6].as_slice(), [[].as_slice()].as_slice(), items)
 }
 
@@ -286,68 +335,75 @@ fn theorems(alloc: Global, inventory: &Available) -> Result<Vec<u32>, AllocError
     Ok(all)
 }
 
+// Whether just these are in the inventory, the moves in their order and the theorems ascending.
+fn has_just(alloc: Global, inventory: &Available, tactics: &[TacticName], numbers: &[u32]) -> Result<bool, AllocError> {
+    let moves = moves(alloc, inventory)?;
+    let theorems = theorems(alloc, inventory)?;
+    Ok(moves.as_slice() == tactics && theorems.as_slice() == numbers)
+}
+
+// Whether just these are available in a level where these levels are won.
+fn gives(alloc: Global, won: &[u16], level: u16, tactics: &[TacticName], numbers: &[u32]) -> Result<bool, Fail> {
+    let game = rules(alloc)?;
+    let inventory = available(alloc, &game, won, level)?;
+    Ok(has_just(alloc, &inventory, tactics, numbers)?)
+}
+
+fn gives_least(alloc: Global, level: u16, tactics: &[TacticName], numbers: &[u32]) -> Result<bool, Fail> {
+    let game = rules(alloc)?;
+    let inventory = least(alloc, &game, level)?;
+    Ok(has_just(alloc, &inventory, tactics, numbers)?)
+}
+
+fn unlocks(alloc: Global, won: &[u16], id: u32) -> Result<bool, Fail> {
+    let game = rules(alloc)?;
+    Ok(unlocked(alloc, &game, won)?.has_theorem(id))
+}
+
 #[test]
 fn what_won_levels_unlock_is_available(rt: HostRuntime) -> Result<(), Fail> {
     let alloc = rt.alloc();
-    let game = rules(alloc)?;
     // A level that was shown and isn't won gives nothing.
-    let none = available(alloc, &game, [].as_slice(), 4)?;
-    assert_eq!(rt; moves(alloc, &none)?.as_slice(), [].as_slice());
-    assert_eq!(rt; theorems(alloc, &none)?.as_slice(), [].as_slice());
-    let two = available(alloc, &game, [0, 3].as_slice(), 4)?;
-    assert_eq!(rt; moves(alloc, &two)?.as_slice(), [TacticName::Rfl, TacticName::Rw, TacticName::Exact].as_slice());
-    assert_eq!(rt; theorems(alloc, &two)?.as_slice(), [2, 3, 4, 10, 13].as_slice());
+    assert!(rt; gives(alloc, [].as_slice(), 4, [].as_slice(), [].as_slice())?);
+    let tactics = [TacticName::Rfl, TacticName::Rw, TacticName::Exact];
+    assert!(rt; gives(alloc, [0, 3].as_slice(), 4, tactics.as_slice(), [2, 3, 4, 10, 13].as_slice())?);
     Ok(())
 }
 
 #[test]
 fn a_level_has_its_own_new_items_and_never_its_statement(rt: HostRuntime) -> Result<(), Fail> {
     let alloc = rt.alloc();
-    let game = rules(alloc)?;
-    let first = available(alloc, &game, [].as_slice(), 0)?;
-    assert_eq!(rt; moves(alloc, &first)?.as_slice(), [TacticName::Rfl, TacticName::Rw].as_slice());
-    assert_eq!(rt; theorems(alloc, &first)?.as_slice(), [2, 3].as_slice());
-    let again = available(alloc, &game, [0, 1].as_slice(), 0)?;
-    assert_eq!(rt; theorems(alloc, &again)?.as_slice(), [2, 3, 11].as_slice());
-    assert!(rt; unlocked(alloc, &game, [0].as_slice())?.has_theorem(10));
+    let tactics = [TacticName::Rfl, TacticName::Rw];
+    assert!(rt; gives(alloc, [].as_slice(), 0, tactics.as_slice(), [2, 3].as_slice())?);
+    assert!(rt; gives(alloc, [0, 1].as_slice(), 0, tactics.as_slice(), [2, 3, 11].as_slice())?);
+    assert!(rt; unlocks(alloc, [0].as_slice(), 10)?);
     Ok(())
 }
 
 #[test]
 fn disabled_and_only_hold_in_their_level_alone(rt: HostRuntime) -> Result<(), Fail> {
     let alloc = rt.alloc();
-    let game = rules(alloc)?;
-    let disabled = available(alloc, &game, [0].as_slice(), 1)?;
-    assert_eq!(rt; moves(alloc, &disabled)?.as_slice(), [TacticName::Rfl].as_slice());
-    assert_eq!(rt; theorems(alloc, &disabled)?.as_slice(), [3, 10].as_slice());
+    assert!(rt; gives(alloc, [0].as_slice(), 1, [TacticName::Rfl].as_slice(), [3, 10].as_slice())?);
     // What an Only command names and isn't unlocked isn't given.
-    let only = available(alloc, &game, [0, 1].as_slice(), 2)?;
-    assert_eq!(rt; moves(alloc, &only)?.as_slice(), [TacticName::Rfl].as_slice());
-    assert_eq!(rt; theorems(alloc, &only)?.as_slice(), [3].as_slice());
-    let after = available(alloc, &game, [0, 1, 2].as_slice(), 3)?;
-    assert_eq!(rt; moves(alloc, &after)?.as_slice(), [TacticName::Rfl, TacticName::Rw, TacticName::Exact].as_slice());
-    assert_eq!(rt; theorems(alloc, &after)?.as_slice(), [2, 3, 4, 10, 11, 12].as_slice());
+    assert!(rt; gives(alloc, [0, 1].as_slice(), 2, [TacticName::Rfl].as_slice(), [3].as_slice())?);
+    let after = [TacticName::Rfl, TacticName::Rw, TacticName::Exact];
+    assert!(rt; gives(alloc, [0, 1, 2].as_slice(), 3, after.as_slice(), [2, 3, 4, 10, 11, 12].as_slice())?);
     Ok(())
 }
 
 #[test]
 fn new_disabled_and_only_work_together(rt: HostRuntime) -> Result<(), Fail> {
-    let alloc = rt.alloc();
-    let game = rules(alloc)?;
-    let all = available(alloc, &game, [0, 3].as_slice(), 5)?;
-    assert_eq!(rt; moves(alloc, &all)?.as_slice(), [TacticName::Exact, TacticName::Symm].as_slice());
-    assert_eq!(rt; theorems(alloc, &all)?.as_slice(), [5, 10].as_slice());
+    let tactics = [TacticName::Exact, TacticName::Symm];
+    assert!(rt; gives(rt.alloc(), [0, 3].as_slice(), 5, tactics.as_slice(), [5, 10].as_slice())?);
     Ok(())
 }
 
 #[test]
 fn the_least_leaves_out_statements_without_a_sample(rt: HostRuntime) -> Result<(), Fail> {
     let alloc = rt.alloc();
-    let game = rules(alloc)?;
-    let before = least(alloc, &game, 4)?;
-    assert_eq!(rt; moves(alloc, &before)?.as_slice(), [TacticName::Rfl, TacticName::Rw, TacticName::Exact].as_slice());
-    assert_eq!(rt; theorems(alloc, &before)?.as_slice(), [2, 3, 4, 10, 11, 12].as_slice());
-    assert!(rt; available(alloc, &game, [0, 1, 2, 3].as_slice(), 4)?.has_theorem(13));
+    let tactics = [TacticName::Rfl, TacticName::Rw, TacticName::Exact];
+    assert!(rt; gives_least(alloc, 4, tactics.as_slice(), [2, 3, 4, 10, 11, 12].as_slice())?);
+    assert!(rt; gives(alloc, [0, 1, 2, 3].as_slice(), 4, tactics.as_slice(), [2, 3, 4, 10, 11, 12, 13].as_slice())?);
     Ok(())
 }
 
