@@ -1,5 +1,6 @@
 pub mod Earlier
 pub mod Flagged
+pub mod Games
 pub mod Places
 pub mod Reached
 pub mod Rounds

@@ -10,7 +10,7 @@ use Rattle.pg_worlds.specs.Course.{Needs}
 use Rattle.pg_worlds.proofs.Standing.{has_place, has_at, behind_needs}
 
 -- a test that each of a list passes is passed by one of them
-all_has : (xs : List ℕ) (test : ℕ → Bool) → list_all test xs ≡ true → (x : ℕ) → has xs x ≡ true → test x ≡ true
+pub all_has : (xs : List ℕ) (test : ℕ → Bool) → list_all test xs ≡ true → (x : ℕ) → has xs x ≡ true → test x ≡ true
 all_has [] test all x e = absurd (false≢true e)
 all_has (y ∷ ys) test all x e =
     let r = and_parts (test y) (list_all test ys) all in

@@ -120,9 +120,9 @@ impl Graph {
             (IsFirstBelow (world_count self.now) (λ w. not (flag stands.now w)))
         }
     {
-        for world in 0..self.count() as u16 {
-            if !has_flag(stands, world as usize) {
-                return Some(world);
+        for down in 0..self.count() as u16 {
+            if !has_flag(stands, down as usize) {
+                return Some(down);
             }
         }
         None
@@ -133,6 +133,7 @@ impl Graph {
         requires { (k : ℕ) → flag stands.old k ≡ false }
         ensures first { IfOk result (λ order. IsFirstEachTime self.now order.items) }
         ensures stands { IfOk result (λ order. (k : ℕ) → flag stands.new k ≡ has order.items k) }
+        ensures graph { IsGraph self.now }
         ensures stuck { OnOk result ((w : ℕ) → w < world_count self.now → could_stand self.now (flag stands.new) w ≡ false) }
     {
         let mut order = Vec::with_capacity(alloc, self.count())?;
@@ -152,11 +153,11 @@ impl Graph {
         ensures world { result < world_count self.now }
         ensures down { flag stands.now result ≡ false }
     {
-        let _ = &self.levels;
         first_without_flag(stands, self.needs(world)).unwrap()
     }
 
-    // Follows from this world the first need that doesn't stand, until a world comes twice, and gives the worlds met from its first coming on.
+    // Follows from this world the first need that doesn't stand, until a world comes twice, and gives the worlds met
+    // from its first coming on.
     fn loop_from(&self, alloc: Global, stands: &[bool], start: u16) -> Result<Vec<u16>, AllocError>
         requires start { start < world_count self.now }
         requires down { flag stands.now start ≡ false }
@@ -181,6 +182,7 @@ impl Graph {
     pub fn order(&self, alloc: Global) -> Result<Vec<u16>, WorldFault>
         ensures ok { IfOk result (λ order. IsWorldOrder self.now order.items) }
         ensures err { IfErr result (IsOrderFault self.now) }
+        ensures graph { IsGraph self.now }
     {
         let mut stands = no_worlds();
         let order = self.stand_up(alloc, &mut stands)?;

@@ -2,8 +2,7 @@
 ghost use Rattle.std.specs.Prelude.{◌≡◌, ◌<◌, ◌≤◌, ◌++◌, ℕ, length, map, vec_len, replicate, IfOk, IfSome, OnOk, IsTrue, slice_index, slice_index_or, flat_map, take, nat_lt};
 ghost use Rattle.std.specs.List.{list_all};
 ghost use Rattle.pg_worlds.specs.Worlds.{worlds_of, IsGraph};
-ghost use Rattle.pg_worlds.specs.View.{level_of};
-ghost use Rattle.pg_worlds.specs.Course.{Level};
+ghost use Rattle.pg_worlds.specs.declared.course.LevelItems.{LevelItems};
 
 use super::*;
 use std::alloc::{AllocError, Global};
@@ -26,7 +25,13 @@ fn all_rows_below(rows: &[Vec<u16>], count: usize) -> bool
 fn is_graph(levels: &[u16], needs: &[Vec<u16>]) -> bool
     ensures { IsTrue result → IsGraph (worlds_of levels.now (map (λ v. v.items) needs.now)) }
 {
-    levels.len() == needs.len() && needs.len() <= 64 && all_rows_below(needs, needs.len())
+    if levels.len() != needs.len() {
+        return false;
+    }
+    if needs.len() > 64 {
+        return false;
+    }
+    all_rows_below(needs, needs.len())
 }
 
 fn rows(alloc: Global, rows: &[&[u16]]) -> Result<Vec<Vec<u16>>, AllocError> {
@@ -79,7 +84,7 @@ fn level_worlds(alloc: Global, levels: &[u16], order: &[u16]) -> Result<Vec<u16>
 }
 
 fn have_worlds(items: &[LevelItems], worlds: &[u16]) -> bool
-    ensures { IsTrue result → map (λ (l : Level). l.world) (map level_of items.now) ≡ worlds.now }
+    ensures { IsTrue result → map (λ (i : LevelItems). i.world) items.now ≡ worlds.now }
 {
     if items.len() != worlds.len() {
         return false;

@@ -3,5 +3,5 @@ use Rattle.pg_worlds.specs.Flags.{flag}
 use Rattle.pg_worlds.proofs.graph.Graph.first_down.Given as goal
 
 -- every world that was passed stands
-abbrev pub invariant-loop-world : goal.invariant-loop-world
-invariant-loop-world l = (v : ℕ) → v < l.world → flag l.stands v ≡ true
+abbrev pub invariant-loop-down : goal.invariant-loop-down
+invariant-loop-down l = (v : ℕ) → v < l.down → flag l.stands v ≡ true
