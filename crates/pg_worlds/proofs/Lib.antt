@@ -1,6 +1,7 @@
 pub mod Earlier
 pub mod Flagged
 pub mod Games
+pub mod OneOrder
 pub mod Places
 pub mod Reached
 pub mod Rounds

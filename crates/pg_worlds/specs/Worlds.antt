@@ -47,6 +47,14 @@ pub record IsWorldOrder (g : Worlds) (order : List ℕ) : Type 0 where
 abbrev pub IsBehindNeeds : Worlds → List ℕ → Type 0
 IsBehindNeeds g ws = EachIndex ws (λ i. (slice_index ws i < world_count g) × IsTrue (list_all (has (take i ws)) (needs_of g (slice_index ws i))))
 
+-- An order has each world once, behind its needs, and there is no other order.
+abbrev pub WorldOrderLaw : Type 0
+WorldOrderLaw =
+    (g : Worlds) (order : List ℕ) → IsWorldOrder g order
+    → IsBehindNeeds g order
+      × ((i j : ℕ) → i < j → j < length order → slice_index order i ≢ slice_index order j)
+      × ((other : List ℕ) → IsWorldOrder g other → other ≡ order)
+
 -- a world can stand where such a list has it
 abbrev pub CanStand : Worlds → ℕ → Type 0
 CanStand g w = (ws : List ℕ) × IsBehindNeeds g ws × IsTrue (has ws w)

@@ -3,7 +3,7 @@ ghost use Rattle.std.specs.Prelude.{◌≡◌, ◌≤◌, ◌<◌, ℕ, ◌||◌
 ghost use Rattle.std.specs.List.{list_any};
 ghost use Rattle.pg_worlds.specs.declared.graph.WorldFault.TheVariants.{OutOfMemory};
 ghost use Rattle.pg_worlds.specs.Flags.{flag, has};
-ghost use Rattle.pg_worlds.specs.Worlds.{could_stand, needs_of, world_count, worlds_of, IsFirstBelow, IsFirstEachTime, IsGraph, IsLoopFrom, IsWorldOrder};
+ghost use Rattle.pg_worlds.specs.Worlds.{could_stand, needs_of, world_count, worlds_of, IsFirstBelow, IsFirstEachTime, IsGraph, IsLoopFrom, IsWorldOrder, WorldOrderLaw};
 ghost use Rattle.pg_worlds.specs.Fault.{IsOrderFault};
 
 use crate::flags::{add_all, first_without_flag, has_all_flags, has_flag};
@@ -192,6 +192,12 @@ impl Graph {
         let worlds = self.loop_from(alloc, &stands, start)?;
         Err(WorldFault::Loop { worlds })
     }
+}
+
+/// A law: an order has each world once, behind its needs, and there is no other order.
+pub fn world_order_law()
+    ensures { WorldOrderLaw }
+{
 }
 
 // Flags of worlds, all of them down.

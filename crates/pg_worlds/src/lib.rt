@@ -8,7 +8,7 @@ mod inventory;
 mod tactic_name;
 
 pub use course::{Course, LevelId, LevelItems};
-pub use graph::{Graph, WorldFault};
+pub use graph::{Graph, WorldFault, world_order_law};
 pub use inventory::{Available, Unlocked, least_available};
 pub use tactic_name::TacticName;
 
