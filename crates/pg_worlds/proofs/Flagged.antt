@@ -1,7 +1,7 @@
 -- What becomes of flags as they are set, taken away and kept.
-use Rattle.std.proofs.Common.{◌≡◌, ◌≢◌, ℕ, ◌+◌, ◌<◌, ◌≤◌, Bool, true, false, not, cond, ◌&&◌, ◌||◌, eqb, List, [], ◌∷◌, ◌++◌, length, get_or, set, take, drop, refl, sym, ap, ◌∙◌, inl, inr, arith}
+use Rattle.std.proofs.Common.{◌≡◌, ℕ, ◌+◌, ◌<◌, ◌≤◌, Bool, true, false, cond, ◌||◌, eqb, List, ◌++◌, length, get_or, set, take, drop, refl, sym, ap, ◌∙◌, inl, inr, arith}
 use Rattle.std.specs.List.{list_any}
-use Rattle.std.proofs.lemmas.Bool.{cases_eq, cases_lt, cases_Bool, eq-eqb, ne_eqb, false≢true}
+use Rattle.std.proofs.lemmas.Bool.{cases_eq, cases_lt, eq-eqb, ne_eqb, false≢true}
 use Rattle.std.proofs.lemmas.List.{get_or-set_same, get_or-set_other, get_or_past, drop_all, append-nil, take_all}
 use Rattle.std.proofs.lemmas.List.Folds.{list_any_more, list_any_at}
 use Rattle.pg_worlds.specs.Flags.{flag}
@@ -33,14 +33,14 @@ module _ {X : Type 0} (N : X → ℕ) where
 
   -- what holds of each name's number holds of the number of the name at hand
   pub room_at : (xs : List X) (i : ℕ) (x : X) (n room : ℕ) → i < length xs → x ≡ get_or xs i x → n ≡ N x
-    → ((k : ℕ) → named xs k ≡ true → k < room) → n < room
+      → ((k : ℕ) → named xs k ≡ true → k < room) → n < room
   room_at xs i x n room h e same has_room =
       has_room n (list_any_at (λ y. eqb (N y) n) xs i x h (eq-eqb _ _ (sym (same ∙ ap N e))))
 
   -- one more flag is set
   pub add_step : (xs : List X) (i : ℕ) (x : X) (n : ℕ) (start flags : List Bool) → i < length xs → x ≡ get_or xs i x → n ≡ N x → n < length flags
-    → ((k : ℕ) → flag flags k ≡ (flag start k || named (take i xs) k))
-    → (k : ℕ) → flag (set flags n true) k ≡ (flag start k || named (take (i + 1) xs) k)
+      → ((k : ℕ) → flag flags k ≡ (flag start k || named (take i xs) k))
+      → (k : ℕ) → flag (set flags n true) k ≡ (flag start k || named (take (i + 1) xs) k)
   add_step xs i x n start flags h e same l so_far k =
       flag-set flags n k true l
       ∙ ap (λ b. cond (eqb n k) true b) (so_far k)

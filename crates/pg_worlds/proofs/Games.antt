@@ -1,5 +1,5 @@
 -- Games of which it was tested that they meet the conditions.
-use Rattle.std.proofs.Common.{◌≡◌, ◌∙◌, ℕ, zero, suc, ◌<◌, Bool, true, List, [], ◌∷◌, map, length, sym, ap, refl, subst}
+use Rattle.std.proofs.Common.{◌≡◌, ℕ, zero, suc, ◌<◌, true, List, [], ◌∷◌, map, ap, refl}
 use Rattle.std.specs.Prelude.{Vec, slice_index_or, nat_lt}
 use Rattle.std.specs.List.{list_all}
 use Rattle.std.specs.declared.alloc.Global.{Global}
@@ -12,7 +12,7 @@ use Rattle.pg_worlds.proofs.Reached.{all_has}
 
 -- a needed world is below the count, where each row was tested
 pub rows_below : (n : ℕ) (rows : List (Vec ℕ Global)) → list_all (λ row. list_all (λ v. nat_lt v n) row.items) rows ≡ true
-  → (w v : ℕ) → has (slice_index_or (map (λ (row : Vec ℕ Global). row.items) rows) w []) v ≡ true → v < n
+    → (w v : ℕ) → has (slice_index_or (map (λ (row : Vec ℕ Global). row.items) rows) w []) v ≡ true → v < n
 rows_below n [] all w v e = absurd (false≢true e)
 rows_below n (row ∷ rows) all zero v e = ltb-true v n (all_has row.items (λ v. nat_lt v n) (and_parts (list_all (λ v. nat_lt v n) row.items) _ all).0 v e)
 rows_below n (row ∷ rows) all (suc w) v e = rows_below n rows (and_parts (list_all (λ v. nat_lt v n) row.items) _ all).1 w v e

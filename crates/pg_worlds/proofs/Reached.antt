@@ -1,11 +1,11 @@
 -- Which worlds a world needs, found by one pass over an order from its end.
-use Rattle.std.proofs.Common.{◌≡◌, ℕ, ◌+◌, ◌<◌, ◌≤◌, Bool, true, false, not, ◌||◌, eqb, List, [], ◌∷◌, length, take, refl, sym, ap, ◌∙◌, subst, inl, inr, arith}
+use Rattle.std.proofs.Common.{◌≡◌, ℕ, ◌+◌, ◌<◌, ◌≤◌, Bool, true, false, not, ◌||◌, eqb, List, [], ◌∷◌, length, take, sym, ap, ◌∙◌, inl, inr, arith}
 use Rattle.std.specs.Prelude.{◌↔◌, slice_index, IsTrue}
 use Rattle.std.specs.List.{list_all}
-use Rattle.std.proofs.lemmas.Bool.{cases_lt, cases_eq, eqb-true, false≢true, and_parts, or_cases, or_left, or_right, not-true}
+use Rattle.std.proofs.lemmas.Bool.{cases_eq, eqb-true, false≢true, and_parts, or_cases, or_left, or_right, not-true}
 use Rattle.std.proofs.lemmas.List.{get_or-take, length-take-le}
 use Rattle.pg_worlds.specs.Flags.{has}
-use Rattle.pg_worlds.specs.Worlds.{Worlds, needs_of, world_count, could_stand, IsGraph, IsWorldOrder}
+use Rattle.pg_worlds.specs.Worlds.{Worlds, needs_of, world_count, IsGraph, IsWorldOrder}
 use Rattle.pg_worlds.specs.Course.{Needs}
 use Rattle.pg_worlds.proofs.Standing.{has_place, has_at, behind_needs}
 
@@ -23,8 +23,8 @@ apart g order ordered i j l h e =
     let r = has_place (take i order) (slice_index order j) (all_has (needs_of g (slice_index order i)) (has (take i order)) behind (slice_index order j) e) in
     let place : r.0 < i = omega (arith, length-take-le i order (omega arith)) in
     let in_front : has (take j order) (slice_index order j) ≡ true =
-      has_at (take j order) r.0 (slice_index order j) (omega (arith, length-take-le j order (omega arith))) (get_or-take j order r.0 0 (omega arith) ∙ sym (get_or-take i order r.0 0 place) ∙ r.2)
-      in
+    has_at (take j order) r.0 (slice_index order j) (omega (arith, length-take-le j order (omega arith))) (get_or-take j order r.0 0 (omega arith) ∙ sym (get_or-take i order r.0 0 place) ∙ r.2)
+    in
     let new = not-true _ (and_parts (not (has (take j order) (slice_index order j))) (list_all (has (take j order)) (needs_of g (slice_index order j))) (ordered.first_each_time j h).1).0 in
     false≢true (sym new ∙ in_front)
 
@@ -55,7 +55,7 @@ spread_skip g order world at next needed one skip so_far =
     }
 
 pub spread_more : (g : Worlds) (order : List ℕ) (world at next : ℕ) (old needed : ℕ → Bool) → next ≡ at + 1 → IsWorldOrder g order → at < length order → old (slice_index order at) ≡ true
-  → ((k : ℕ) → needed k ≡ (old k || has (needs_of g (slice_index order at)) k)) → IsSpread g order world next old → IsSpread g order world at needed
+    → ((k : ℕ) → needed k ≡ (old k || has (needs_of g (slice_index order at)) k)) → IsSpread g order world next old → IsSpread g order world at needed
 spread_more g order world at next old needed one ordered h here same so_far =
     let more : (k : ℕ) → old k ≡ true → needed k ≡ true = λ k e. same k ∙ or_left (old k) (has (needs_of g (slice_index order at)) k) e in
     record {
@@ -67,9 +67,9 @@ spread_more g order world at next old needed one ordered h here same so_far =
       closed = λ j l lt e k e2. elim (cases_eq at j) [
         | inl equal ↦ same k ∙ or_right (old k) _ (ap (λ i. has (needs_of g (slice_index order i)) k) equal ∙ e2)
         | inr other ↦ elim (or_cases (old (slice_index order j)) (has (needs_of g (slice_index order at)) (slice_index order j)) (sym (same (slice_index order j)) ∙ e)) [
-            | inl before ↦ more k (so_far.closed j (omega arith) lt before k e2)
-            | inr new ↦ absurd (apart g order ordered at j l lt new)
-          ]
+          | inl before ↦ more k (so_far.closed j (omega arith) lt before k e2)
+          | inr new ↦ absurd (apart g order ordered at j l lt new)
+        ]
       ];
     }
 

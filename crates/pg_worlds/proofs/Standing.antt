@@ -1,12 +1,12 @@
 -- What it means that no further world could stand.
-use Rattle.std.proofs.Common.{replicate, ◌≡◌, ◌≢◌, ◌↔◌, ℕ, ◌+◌, ◌<◌, ◌≤◌, Bool, true, false, not, cond, ◌&&◌, ◌||◌, eqb, List, [], ◌∷◌, ◌++◌, length, get_or, set, take, refl, sym, ap, ◌∙◌, subst, inl, inr, arith, zero, suc, Some, None}
-use Rattle.std.specs.Prelude.{find, slice_index, IsTrue, IsSome}
-use Rattle.std.specs.List.{list_any, list_all}
-use Rattle.std.proofs.lemmas.Bool.{cases_eq, cases_lt, cases_Bool, eqb-true, eq-eqb, false≢true, and_parts, and_from, or_cases, not-true, not_from_false}
+use Rattle.std.proofs.Common.{replicate, ◌≡◌, ℕ, ◌+◌, ◌<◌, Bool, true, false, not, cond, ◌&&◌, ◌||◌, eqb, List, [], ◌∷◌, ◌++◌, length, set, take, refl, sym, ap, ◌∙◌, subst, inl, inr, arith, zero, suc, Some}
+use Rattle.std.specs.Prelude.{find, slice_index, IsSome}
+use Rattle.std.specs.List.{list_all}
+use Rattle.std.proofs.lemmas.Bool.{cases_lt, cases_Bool, eqb-true, eq-eqb, false≢true, and_parts, and_from, or_cases, not-true, not_from_false}
 use Rattle.std.proofs.lemmas.List.{get_or_append_left, get_or_push, take-append-le, take_at, get_or-take, length-take-le, length_push}
 use Rattle.std.proofs.lemmas.List.Folds.{list_any-append, list_any_at}
 use Rattle.pg_worlds.specs.Flags.{flag, has}
-use Rattle.pg_worlds.specs.Worlds.{Worlds, needs_of, world_count, could_stand, IsFirstBelow, IsFirstEachTime, IsBehindNeeds, CanStand, HasEveryWorld, HasNoOrder}
+use Rattle.pg_worlds.specs.Worlds.{Worlds, needs_of, world_count, could_stand, IsFirstBelow, IsFirstEachTime, IsBehindNeeds, CanStand, HasNoOrder}
 use Rattle.pg_worlds.proofs.Flagged.{flag-set}
 
 -- a number that a list has stands at some place of it
@@ -48,8 +48,8 @@ first_each_push g order w old new i h =
     elim (cases_lt i (length order)) [
       | inl l ↦ subst (λ before. P before (slice_index (order ++ w ∷ []) i)) (sym (take-append-le i order (w ∷ []) (omega arith))) (subst (P (take i order)) (sym (get_or_append_left order (w ∷ []) 0 i l)) (old i l))
       | inr l ↦
-        let here : length order ≡ i = omega (arith, length_push order w) in
-        subst (λ before. P before (slice_index (order ++ w ∷ []) i)) (sym (take_at order (w ∷ []) i here)) (subst (P order) (sym (get_or_push order w 0 i here)) new)
+          let here : length order ≡ i = omega (arith, length_push order w) in
+          subst (λ before. P before (slice_index (order ++ w ∷ []) i)) (sym (take_at order (w ∷ []) i here)) (subst (P order) (sym (get_or_push order w 0 i here)) new)
     ]
 
 pub flags_push : (flags : List Bool) (order : List ℕ) (w : ℕ) → w < length flags → ((k : ℕ) → flag flags k ≡ has order k) → (k : ℕ) → flag (set flags w true) k ≡ has (order ++ w ∷ []) k
@@ -76,11 +76,11 @@ module _ (g : Worlds) (stands : ℕ → Bool) (stuck : (w : ℕ) → w < world_c
   among ws behind (suc m) i l h =
       let w : ℕ = slice_index ws i in
       let earlier : (v : ℕ) → has (take i ws) v ≡ true → stands v ≡ true =
-        λ v e.
-          let r = has_place (take i ws) v e in
-          let j_below : r.0 < i = omega (arith, length-take-le i ws (omega arith)) in
-          subst (λ u. stands u ≡ true) (sym (get_or-take i ws r.0 0 j_below) ∙ r.2) (among ws behind m r.0 (omega arith) (omega arith))
-        in
+      λ v e.
+      let r = has_place (take i ws) v e in
+      let j_below : r.0 < i = omega (arith, length-take-le i ws (omega arith)) in
+      subst (λ u. stands u ≡ true) (sym (get_or-take i ws r.0 0 j_below) ∙ r.2) (among ws behind m r.0 (omega arith) (omega arith))
+      in
       elim (cases_Bool (stands w)) [
         | inl e ↦ e
         | inr e ↦ absurd (false≢true (sym (stuck w (behind i h).0) ∙ and_from (not (stands w)) _ (not_from_false (stands w) e) (list_all-weaker _ stands earlier (needs_of g w) (behind i h).1)))
@@ -120,8 +120,8 @@ find_gives test (y ∷ ys) x e =
 
 -- one more world stands: the first that could
 pub grown : (g : Worlds) (stands : List Bool) (order : List ℕ) (w : ℕ) → w < length stands → IsFirstEachTime g order × ((k : ℕ) → flag stands k ≡ has order k)
-  → IsFirstBelow (world_count g) (could_stand g (flag stands)) w
-  → IsFirstEachTime g (order ++ w ∷ []) × ((k : ℕ) → flag (set stands w true) k ≡ has (order ++ w ∷ []) k)
+    → IsFirstBelow (world_count g) (could_stand g (flag stands)) w
+    → IsFirstEachTime g (order ++ w ∷ []) × ((k : ℕ) → flag (set stands w true) k ≡ has (order ++ w ∷ []) k)
 grown g stands order w h so_far first =
     (first_each_push g order w so_far.0 (subst (λ s. IsFirstBelow (world_count g) (could_stand g s) w) (same_test (flag stands) (has order) so_far.1) first), flags_push stands order w h so_far.1)
 

@@ -52,7 +52,7 @@ own_last false false false = refl
 -- ---- the levels are looked at one after the other
 
 won_levels_more : (ls : List Level) (bs : List Bool) (i : ℕ) → i < length ls → i < length bs
-  → won_levels (take (suc i) ls) (take (suc i) bs) ≡ won_levels (take i ls) (take i bs) ++ cond (get_or bs i false) (get_or ls i no_level ∷ []) []
+    → won_levels (take (suc i) ls) (take (suc i) bs) ≡ won_levels (take i ls) (take i bs) ++ cond (get_or bs i false) (get_or ls i no_level ∷ []) []
 won_levels_more [] bs i h e = absurd (omega arith)
 won_levels_more (l ∷ ls) [] i h e = absurd (omega arith)
 won_levels_more (l ∷ ls) (true ∷ bs) zero h e = refl
@@ -72,7 +72,7 @@ unlocked_push ls l =
     (λ n. list_any-append (λ v. (unlocked_by v).theorem n) ls (l ∷ []) ∙ or-false _ _)
 
 pub unlocked_more : (ls : List Level) (bs : List Bool) (i : ℕ) (a : Inventory) → i < length ls → i < length bs → get_or bs i false ≡ true
-  → a ≡ unlocked_by_all (won_levels (take i ls) (take i bs)) → joined a (unlocked_by (get_or ls i no_level)) ≡ unlocked_by_all (won_levels (take (i + 1) ls) (take (i + 1) bs))
+    → a ≡ unlocked_by_all (won_levels (take i ls) (take i bs)) → joined a (unlocked_by (get_or ls i no_level)) ≡ unlocked_by_all (won_levels (take (i + 1) ls) (take (i + 1) bs))
 unlocked_more ls bs i a h e won so_far =
     ap (λ x. joined x (unlocked_by (get_or ls i no_level))) so_far
     ∙ sym (unlocked_push (won_levels (take i ls) (take i bs)) (get_or ls i no_level))
@@ -81,7 +81,7 @@ unlocked_more ls bs i a h e won so_far =
     ∙ ap (λ n. unlocked_by_all (won_levels (take n ls) (take n bs))) (sym (add-one i))
 
 pub unlocked_same : (ls : List Level) (bs : List Bool) (i : ℕ) → i < length ls → i < length bs → get_or bs i false ≡ false
-  → unlocked_by_all (won_levels (take i ls) (take i bs)) ≡ unlocked_by_all (won_levels (take (i + 1) ls) (take (i + 1) bs))
+    → unlocked_by_all (won_levels (take i ls) (take i bs)) ≡ unlocked_by_all (won_levels (take (i + 1) ls) (take (i + 1) bs))
 unlocked_same ls bs i h e down =
     ap unlocked_by_all (sym (append-nil _))
     ∙ ap (λ b. unlocked_by_all (won_levels (take i ls) (take i bs) ++ cond b (get_or ls i no_level ∷ []) [])) (sym down)

@@ -1,5 +1,5 @@
 -- The levels of the program as the definitions see them.
-use Rattle.std.specs.Prelude.{ℕ, List, Vec, map, option_map}
+use Rattle.std.specs.Prelude.{ℕ, List, map, option_map}
 use Rattle.pg_worlds.specs.declared.course.LevelItems.{LevelItems}
 use Rattle.pg_worlds.specs.Worlds.{Worlds}
 use Rattle.pg_worlds.specs.Course.{Level, Plan}

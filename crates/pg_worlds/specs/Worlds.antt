@@ -52,8 +52,8 @@ abbrev pub WorldOrderLaw : Type 0
 WorldOrderLaw =
     (g : Worlds) (order : List ℕ) → IsWorldOrder g order
     → IsBehindNeeds g order
-      × ((i j : ℕ) → i < j → j < length order → slice_index order i ≢ slice_index order j)
-      × ((other : List ℕ) → IsWorldOrder g other → other ≡ order)
+    × ((i j : ℕ) → i < j → j < length order → slice_index order i ≢ slice_index order j)
+    × ((other : List ℕ) → IsWorldOrder g other → other ≡ order)
 
 -- a world can stand where such a list has it
 abbrev pub CanStand : Worlds → ℕ → Type 0

@@ -58,7 +58,10 @@ pub(crate) fn has_all_flags(flags: &[bool], worlds: &[u16]) -> bool
 pub(crate) fn first_without_flag(flags: &[bool], worlds: &[u16]) -> Option<u16>
     ensures { result ≡ find (λ w. not (flag flags.now w)) worlds.now }
 {
-    worlds.iter().copied().find(|w| !has_flag(flags, *w as usize))
+    worlds
+        .iter()
+        .copied()
+        .find(|w| !has_flag(flags, *w as usize))
 }
 
 // Sets the flag of each of these.
@@ -118,7 +121,10 @@ pub(crate) fn insert_all<T: Numbered>(flags: &mut Vec<bool>, names: &[T])
 }
 
 // Makes room for the flag of each of these, and sets it. Without memory all flags stay.
-pub(crate) fn insert_growing<T: Numbered>(flags: &mut Vec<bool>, names: &[T]) -> Result<(), AllocError>
+pub(crate) fn insert_growing<T: Numbered>(
+    flags: &mut Vec<bool>,
+    names: &[T],
+) -> Result<(), AllocError>
     ensures ok { OnOk result ((k : ℕ) → flag flags.new.items k ≡ (flag flags.old.items k || list_any (λ x. T.number_of x == k) names.now)) }
     ensures err { OnErr result ((k : ℕ) → flag flags.new.items k ≡ flag flags.old.items k) }
     ensures longer { vec_len flags.old ≤ vec_len flags.new }

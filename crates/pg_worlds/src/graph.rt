@@ -98,11 +98,9 @@ impl Graph {
 
     // The first world in file order that could stand next.
     fn first_ready(&self, stands: &[bool]) -> Option<u16>
-        ensures {
-            MatchOption result
+        ensures { MatchOption result
             ((w : ℕ) → w < world_count self.now → could_stand self.now (flag stands.now) w ≡ false)
-            (IsFirstBelow (world_count self.now) (could_stand self.now (flag stands.now)))
-        }
+            (IsFirstBelow (world_count self.now) (could_stand self.now (flag stands.now))) }
     {
         for world in 0..self.count() as u16 {
             if self.could_stand(stands, world) {
@@ -114,11 +112,9 @@ impl Graph {
 
     // The first world in file order that doesn't stand.
     fn first_down(&self, stands: &[bool]) -> Option<u16>
-        ensures {
-            MatchOption result
+        ensures { MatchOption result
             ((w : ℕ) → w < world_count self.now → flag stands.now w ≡ true)
-            (IsFirstBelow (world_count self.now) (λ w. not (flag stands.now w)))
-        }
+            (IsFirstBelow (world_count self.now) (λ w. not (flag stands.now w))) }
     {
         for down in 0..self.count() as u16 {
             if !has_flag(stands, down as usize) {
@@ -129,7 +125,11 @@ impl Graph {
     }
 
     // Puts a world into the order, and its flag into `stands`, as long as one could stand.
-    fn stand_up(&self, alloc: Global, stands: &mut [bool; MOST_WORLDS]) -> Result<Vec<u16>, AllocError>
+    fn stand_up(
+        &self,
+        alloc: Global,
+        stands: &mut [bool; MOST_WORLDS],
+    ) -> Result<Vec<u16>, AllocError>
         requires { (k : ℕ) → flag stands.old k ≡ false }
         ensures first { IfOk result (λ order. IsFirstEachTime self.now order.items) }
         ensures stands { IfOk result (λ order. (k : ℕ) → flag stands.new k ≡ has order.items k) }
@@ -197,8 +197,7 @@ impl Graph {
 /// A law: an order has each world once, behind its needs, and there is no other order.
 pub fn world_order_law()
     ensures { WorldOrderLaw }
-{
-}
+{}
 
 // Flags of worlds, all of them down.
 pub(crate) fn no_worlds() -> [bool; MOST_WORLDS]

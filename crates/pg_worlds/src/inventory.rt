@@ -4,7 +4,9 @@ ghost use Rattle.pg_worlds.specs.Flags.{flag, has};
 ghost use Rattle.pg_worlds.specs.Moves.{place_of};
 
 use crate::course::{Course, LevelId, LevelItems};
-use crate::flags::{add_all, has_flag, insert_all, insert_growing, keep_named, make_room, remove_all, take_out};
+use crate::flags::{
+    add_all, has_flag, insert_all, insert_growing, keep_named, make_room, remove_all, take_out,
+};
 use crate::tactic_name::TacticName;
 use std::alloc::{AllocError, Global};
 use std::marker::Model;
@@ -58,13 +60,16 @@ impl Unlocked {
     }
 
     /// Adds what a won level unlocks: its `NewTactic`, its `NewTheorem` and its own statement. Without memory nothing is added.
-    pub fn add_won(&mut self, alloc: Global, course: &Course, level: LevelId) -> Result<(), AllocError>
+    pub fn add_won(
+        &mut self,
+        alloc: Global,
+        course: &Course,
+        level: LevelId,
+    ) -> Result<(), AllocError>
         requires { level.0 < length course.now.levels }
         ensures ok { OnOk result (inventory self.new ≡ joined (inventory self.old) (unlocked_by (level_at course.now level.0))) }
-        ensures won {
-            OnOk result
-            ((won : List Bool) → length won ≡ length course.now.levels → inventory self.old ≡ unlocked course.now won → inventory self.new ≡ unlocked course.now (slice_set won level.0 true))
-        }
+        ensures won { OnOk result
+            ((won : List Bool) → length won ≡ length course.now.levels → inventory self.old ≡ unlocked course.now won → inventory self.new ≡ unlocked course.now (slice_set won level.0 true)) }
         ensures err { OnErr result (inventory self.new ≡ inventory self.old) }
     {
         let item = course.items(level.0 as usize);
@@ -78,12 +83,15 @@ impl Unlocked {
 
     /// What the player has in this level: the unlocked together with the level's own New moves and theorems, without its
     /// Disabled ones; where an Only command stands, only what it names; never the level's own statement.
-    pub fn available(&self, alloc: Global, course: &Course, level: LevelId) -> Result<Available, AllocError>
+    pub fn available(
+        &self,
+        alloc: Global,
+        course: &Course,
+        level: LevelId,
+    ) -> Result<Available, AllocError>
         requires { level.0 < length course.now.levels }
         ensures within { IfOk result (λ a. inventory a ≡ within (level_at course.now level.0) (inventory self.now)) }
-        ensures won {
-            IfOk result (λ a. (won : List Bool) → inventory self.now ≡ unlocked course.now won → inventory a ≡ available course.now won level.0)
-        }
+        ensures won { IfOk result (λ a. (won : List Bool) → inventory self.now ≡ unlocked course.now won → inventory a ≡ available course.now won level.0) }
     {
         self.within(alloc, course.items(level.0 as usize))
     }
@@ -151,12 +159,14 @@ ghost use Rattle.pg_worlds.specs.declared.tactic_name.TacticName.{TacticName};
 
 /// The least that any player has in this level who may play it: what is available where just those levels are won that
 /// have to be, without the statements of levels that have no sample.
-pub fn least_available(alloc: Global, course: &Course, level: LevelId) -> Result<Available, AllocError>
+pub fn least_available(
+    alloc: Global,
+    course: &Course,
+    level: LevelId,
+) -> Result<Available, AllocError>
     requires { level.0 < length course.now.levels }
-    ensures {
-        IfOk result
-        (λ a. (won : List Bool) × IsLeastWon course.now level.0 won × (inventory a ≡ sampled_only course.now (available course.now won level.0)))
-    }
+    ensures { IfOk result
+        (λ a. (won : List Bool) × IsLeastWon course.now level.0 won × (inventory a ≡ sampled_only course.now (available course.now won level.0))) }
 {
     let won = course.least_won(alloc, level)?;
     let mut least = unlocked_at(alloc, course, won.as_slice())?.available(alloc, course, level)?;
@@ -189,7 +199,11 @@ fn moves_within(unlocked: [bool; MOVES], item: &LevelItems) -> [bool; MOVES]
 }
 
 // The theorems of a level, from the unlocked ones.
-fn theorems_within(alloc: Global, unlocked: Vec<bool>, item: &LevelItems) -> Result<Vec<bool>, AllocError>
+fn theorems_within(
+    alloc: Global,
+    unlocked: Vec<bool>,
+    item: &LevelItems,
+) -> Result<Vec<bool>, AllocError>
     ensures { IfOk result (λ r. (k : ℕ) → flag r.items k ≡ theorem_within (level_of item.now) (flag unlocked.items) k) }
 {
     let mut theorems = unlocked;
@@ -213,7 +227,11 @@ fn allowed_moves(moves: [bool; MOVES], only: &Option<Vec<TacticName>>) -> [bool;
 }
 
 // The theorems that an Only command lets through.
-fn allowed_theorems(alloc: Global, theorems: Vec<bool>, only: &Option<Vec<u32>>) -> Result<Vec<bool>, AllocError>
+fn allowed_theorems(
+    alloc: Global,
+    theorems: Vec<bool>,
+    only: &Option<Vec<u32>>,
+) -> Result<Vec<bool>, AllocError>
     ensures { IfOk result (λ r. (k : ℕ) → flag r.items k ≡ (flag theorems.items k && is_allowed has (option_map (λ v. v.items) only.now) k)) }
 {
     let Some(named) = only else {

@@ -97,7 +97,12 @@ fn have_worlds(items: &[LevelItems], worlds: &[u16]) -> bool
     true
 }
 
-fn course(alloc: Global, levels: &[u16], needs: &[&[u16]], items: Vec<LevelItems>) -> Result<Course, Fail> {
+fn course(
+    alloc: Global,
+    levels: &[u16],
+    needs: &[&[u16]],
+    items: Vec<LevelItems>,
+) -> Result<Course, Fail> {
     let graph = graph(alloc, levels, needs)?;
     let order = graph.order(alloc)?;
     let worlds = level_worlds(alloc, levels, order.as_slice())?;
@@ -142,9 +147,32 @@ fn loop_of(alloc: Global, needs: &[&[u16]]) -> Result<Vec<u16>, Fail> {
 #[test]
 fn a_world_comes_as_soon_as_its_needs_stand(rt: HostRuntime) -> Result<(), Fail> {
     let alloc = rt.alloc();
-    assert_eq!(rt; order_of(alloc, [[].as_slice(), [].as_slice()].as_slice())?.as_slice(), [0, 1].as_slice());
-    assert_eq!(rt; order_of(alloc, [[2].as_slice(), [].as_slice(), [].as_slice()].as_slice())?.as_slice(), [1, 2, 0].as_slice());
-    assert_eq!(rt; order_of(alloc, [[1, 3].as_slice(), [3].as_slice(), [].as_slice(), [].as_slice()].as_slice())?.as_slice(), [2, 3, 1, 0].as_slice());
+    assert_eq!(rt;
+        order_of(alloc, [[].as_slice(), [].as_slice()].as_slice())?.as_slice(),
+        [0, 1].as_slice()
+    );
+    assert_eq!(rt;
+        order_of(
+            alloc,
+            [[2].as_slice(), [].as_slice(), [].as_slice()].as_slice()
+        )?
+        .as_slice(),
+        [1, 2, 0].as_slice()
+    );
+    assert_eq!(rt;
+        order_of(
+            alloc,
+            [
+                [1, 3].as_slice(),
+                [3].as_slice(),
+                [].as_slice(),
+                [].as_slice()
+            ]
+            .as_slice()
+        )?
+        .as_slice(),
+        [2, 3, 1, 0].as_slice()
+    );
     Ok(())
 }
 
@@ -152,10 +180,29 @@ fn a_world_comes_as_soon_as_its_needs_stand(rt: HostRuntime) -> Result<(), Fail>
 fn worlds_that_need_each_other_are_a_loop(rt: HostRuntime) -> Result<(), Fail> {
     let alloc = rt.alloc();
     // A needs B and B needs A: the loop is A, B.
-    assert_eq!(rt; loop_of(alloc, [[1].as_slice(), [0].as_slice()].as_slice())?.as_slice(), [0, 1].as_slice());
-    assert_eq!(rt; loop_of(alloc, [[].as_slice(), [1].as_slice()].as_slice())?.as_slice(), [1].as_slice());
+    assert_eq!(rt;
+        loop_of(alloc, [[1].as_slice(), [0].as_slice()].as_slice())?.as_slice(),
+        [0, 1].as_slice()
+    );
+    assert_eq!(rt;
+        loop_of(alloc, [[].as_slice(), [1].as_slice()].as_slice())?.as_slice(),
+        [1].as_slice()
+    );
     // Worlds that lead into the loop, and needs that can stand, are no part of it.
-    assert_eq!(rt; loop_of(alloc, [[3, 2].as_slice(), [2].as_slice(), [3, 1].as_slice(), [].as_slice()].as_slice())?.as_slice(), [2, 1].as_slice());
+    assert_eq!(rt;
+        loop_of(
+            alloc,
+            [
+                [3, 2].as_slice(),
+                [2].as_slice(),
+                [3, 1].as_slice(),
+                [].as_slice()
+            ]
+            .as_slice()
+        )?
+        .as_slice(),
+        [2, 1].as_slice()
+    );
     Ok(())
 }
 
@@ -167,7 +214,12 @@ fn three_worlds(alloc: Global) -> Result<Course, Fail> {
     for world in [0, 0, 1, 2] {
         items.push(plain(alloc, world))?;
     }
-    course(alloc, [2, 1, 1].as_slice(), [[].as_slice(), [0].as_slice(), [1].as_slice()].as_slice(), items)
+    course(
+        alloc,
+        [2, 1, 1].as_slice(),
+        [[].as_slice(), [0].as_slice(), [1].as_slice()].as_slice(),
+        items,
+    )
 }
 
 // The number of the first missing level, where these levels are won; None where the level is open.
@@ -195,21 +247,45 @@ fn least_won(alloc: Global, level: u16) -> Result<Vec<bool>, Fail> {
 #[test]
 fn a_level_is_open_once_all_before_it_are_won(rt: HostRuntime) -> Result<(), Fail> {
     let alloc = rt.alloc();
-    assert_eq!(rt; missing(alloc, [false, false, false, false].as_slice(), 0)?, None);
-    assert_eq!(rt; missing(alloc, [false, false, false, false].as_slice(), 1)?, Some(0));
-    assert_eq!(rt; missing(alloc, [true, false, false, false].as_slice(), 2)?, Some(1));
+    assert_eq!(rt;
+        missing(alloc, [false, false, false, false].as_slice(), 0)?,
+        None
+    );
+    assert_eq!(rt;
+        missing(alloc, [false, false, false, false].as_slice(), 1)?,
+        Some(0)
+    );
+    assert_eq!(rt;
+        missing(alloc, [true, false, false, false].as_slice(), 2)?,
+        Some(1)
+    );
     // C needs A through B.
-    assert_eq!(rt; missing(alloc, [true, false, true, false].as_slice(), 3)?, Some(1));
-    assert_eq!(rt; missing(alloc, [false, false, false, false].as_slice(), 3)?, Some(0));
-    assert_eq!(rt; missing(alloc, [true, true, true, false].as_slice(), 3)?, None);
+    assert_eq!(rt;
+        missing(alloc, [true, false, true, false].as_slice(), 3)?,
+        Some(1)
+    );
+    assert_eq!(rt;
+        missing(alloc, [false, false, false, false].as_slice(), 3)?,
+        Some(0)
+    );
+    assert_eq!(rt;
+        missing(alloc, [true, true, true, false].as_slice(), 3)?,
+        None
+    );
     Ok(())
 }
 
 #[test]
 fn the_least_won_levels_are_those_before(rt: HostRuntime) -> Result<(), Fail> {
     let alloc = rt.alloc();
-    assert_eq!(rt; least_won(alloc, 2)?.as_slice(), [true, true, false, false].as_slice());
-    assert_eq!(rt; least_won(alloc, 1)?.as_slice(), [true, false, false, false].as_slice());
+    assert_eq!(rt;
+        least_won(alloc, 2)?.as_slice(),
+        [true, true, false, false].as_slice()
+    );
+    assert_eq!(rt;
+        least_won(alloc, 1)?.as_slice(),
+        [true, false, false, false].as_slice()
+    );
     Ok(())
 }
 
@@ -225,7 +301,10 @@ fn names<'a>(tactics: &'a [TacticName], theorems: &'a [u32]) -> Named<'a> {
     Named { tactics, theorems }
 }
 
-fn moves_named(alloc: Global, only: Option<Named<'_>>) -> Result<Option<Vec<TacticName>>, AllocError> {
+fn moves_named(
+    alloc: Global,
+    only: Option<Named<'_>>,
+) -> Result<Option<Vec<TacticName>>, AllocError> {
     match only {
         Some(named) => Ok(Some(named.tactics.to_vec(alloc)?)),
         None => Ok(None),
@@ -266,11 +345,17 @@ fn level(
 fn first_levels(alloc: Global) -> Result<Vec<LevelItems>, AllocError> {
     let none = names([].as_slice(), [].as_slice());
     let mut items = Vec::new(alloc);
-    let new = names([TacticName::Rw, TacticName::Rfl].as_slice(), [2, 3].as_slice());
+    let new = names(
+        [TacticName::Rw, TacticName::Rfl].as_slice(),
+        [2, 3].as_slice(),
+    );
     items.push(level(alloc, 10, true, new, none, None)?)?;
     let disabled = names([TacticName::Rw].as_slice(), [2].as_slice());
     items.push(level(alloc, 11, true, none, disabled, None)?)?;
-    let only = names([TacticName::Rfl, TacticName::Exact].as_slice(), [3, 4].as_slice());
+    let only = names(
+        [TacticName::Rfl, TacticName::Exact].as_slice(),
+        [3, 4].as_slice(),
+    );
     items.push(level(alloc, 12, true, none, none, Some(only))?)?;
     Ok(items)
 }
@@ -284,7 +369,10 @@ fn push_last_levels(alloc: Global, items: &mut Vec<LevelItems>) -> Result<(), Al
     items.push(level(alloc, 14, true, none, none, None)?)?;
     let own = names([TacticName::Symm].as_slice(), [5].as_slice());
     let disabled = names([TacticName::Rfl].as_slice(), [3].as_slice());
-    let only = names([TacticName::Rfl, TacticName::Symm, TacticName::Exact].as_slice(), [3, 5, 10].as_slice());
+    let only = names(
+        [TacticName::Rfl, TacticName::Symm, TacticName::Exact].as_slice(),
+        [3, 5, 10].as_slice(),
+    );
     items.push(level(alloc, 15, true, own, disabled, Some(only))?)?;
     Ok(())
 }
@@ -341,20 +429,36 @@ fn theorems(alloc: Global, inventory: &Available) -> Result<Vec<u32>, AllocError
 }
 
 // Whether just these are in the inventory, the moves in their order and the theorems ascending.
-fn has_just(alloc: Global, inventory: &Available, tactics: &[TacticName], numbers: &[u32]) -> Result<bool, AllocError> {
+fn has_just(
+    alloc: Global,
+    inventory: &Available,
+    tactics: &[TacticName],
+    numbers: &[u32],
+) -> Result<bool, AllocError> {
     let moves = moves(alloc, inventory)?;
     let theorems = theorems(alloc, inventory)?;
     Ok(moves.as_slice() == tactics && theorems.as_slice() == numbers)
 }
 
 // Whether just these are available in a level where these levels are won.
-fn gives(alloc: Global, won: &[u16], level: u16, tactics: &[TacticName], numbers: &[u32]) -> Result<bool, Fail> {
+fn gives(
+    alloc: Global,
+    won: &[u16],
+    level: u16,
+    tactics: &[TacticName],
+    numbers: &[u32],
+) -> Result<bool, Fail> {
     let game = rules(alloc)?;
     let inventory = available(alloc, &game, won, level)?;
     Ok(has_just(alloc, &inventory, tactics, numbers)?)
 }
 
-fn gives_least(alloc: Global, level: u16, tactics: &[TacticName], numbers: &[u32]) -> Result<bool, Fail> {
+fn gives_least(
+    alloc: Global,
+    level: u16,
+    tactics: &[TacticName],
+    numbers: &[u32],
+) -> Result<bool, Fail> {
     let game = rules(alloc)?;
     let inventory = least(alloc, &game, level)?;
     Ok(has_just(alloc, &inventory, tactics, numbers)?)
@@ -371,7 +475,15 @@ fn what_won_levels_unlock_is_available(rt: HostRuntime) -> Result<(), Fail> {
     // A level that was shown and isn't won gives nothing.
     assert!(rt; gives(alloc, [].as_slice(), 4, [].as_slice(), [].as_slice())?);
     let tactics = [TacticName::Rfl, TacticName::Rw, TacticName::Exact];
-    assert!(rt; gives(alloc, [0, 3].as_slice(), 4, tactics.as_slice(), [2, 3, 4, 10, 13].as_slice())?);
+    assert!(rt;
+        gives(
+            alloc,
+            [0, 3].as_slice(),
+            4,
+            tactics.as_slice(),
+            [2, 3, 4, 10, 13].as_slice()
+        )?
+    );
     Ok(())
 }
 
@@ -379,8 +491,24 @@ fn what_won_levels_unlock_is_available(rt: HostRuntime) -> Result<(), Fail> {
 fn a_level_has_its_own_new_items_and_never_its_statement(rt: HostRuntime) -> Result<(), Fail> {
     let alloc = rt.alloc();
     let tactics = [TacticName::Rfl, TacticName::Rw];
-    assert!(rt; gives(alloc, [].as_slice(), 0, tactics.as_slice(), [2, 3].as_slice())?);
-    assert!(rt; gives(alloc, [0, 1].as_slice(), 0, tactics.as_slice(), [2, 3, 11].as_slice())?);
+    assert!(rt;
+        gives(
+            alloc,
+            [].as_slice(),
+            0,
+            tactics.as_slice(),
+            [2, 3].as_slice()
+        )?
+    );
+    assert!(rt;
+        gives(
+            alloc,
+            [0, 1].as_slice(),
+            0,
+            tactics.as_slice(),
+            [2, 3, 11].as_slice()
+        )?
+    );
     assert!(rt; unlocks(alloc, [0].as_slice(), 10)?);
     Ok(())
 }
@@ -388,18 +516,50 @@ fn a_level_has_its_own_new_items_and_never_its_statement(rt: HostRuntime) -> Res
 #[test]
 fn disabled_and_only_hold_in_their_level_alone(rt: HostRuntime) -> Result<(), Fail> {
     let alloc = rt.alloc();
-    assert!(rt; gives(alloc, [0].as_slice(), 1, [TacticName::Rfl].as_slice(), [3, 10].as_slice())?);
+    assert!(rt;
+        gives(
+            alloc,
+            [0].as_slice(),
+            1,
+            [TacticName::Rfl].as_slice(),
+            [3, 10].as_slice()
+        )?
+    );
     // What an Only command names and isn't unlocked isn't given.
-    assert!(rt; gives(alloc, [0, 1].as_slice(), 2, [TacticName::Rfl].as_slice(), [3].as_slice())?);
+    assert!(rt;
+        gives(
+            alloc,
+            [0, 1].as_slice(),
+            2,
+            [TacticName::Rfl].as_slice(),
+            [3].as_slice()
+        )?
+    );
     let after = [TacticName::Rfl, TacticName::Rw, TacticName::Exact];
-    assert!(rt; gives(alloc, [0, 1, 2].as_slice(), 3, after.as_slice(), [2, 3, 4, 10, 11, 12].as_slice())?);
+    assert!(rt;
+        gives(
+            alloc,
+            [0, 1, 2].as_slice(),
+            3,
+            after.as_slice(),
+            [2, 3, 4, 10, 11, 12].as_slice()
+        )?
+    );
     Ok(())
 }
 
 #[test]
 fn new_disabled_and_only_work_together(rt: HostRuntime) -> Result<(), Fail> {
     let tactics = [TacticName::Exact, TacticName::Symm];
-    assert!(rt; gives(rt.alloc(), [0, 3].as_slice(), 5, tactics.as_slice(), [5, 10].as_slice())?);
+    assert!(rt;
+        gives(
+            rt.alloc(),
+            [0, 3].as_slice(),
+            5,
+            tactics.as_slice(),
+            [5, 10].as_slice()
+        )?
+    );
     Ok(())
 }
 
@@ -407,8 +567,23 @@ fn new_disabled_and_only_work_together(rt: HostRuntime) -> Result<(), Fail> {
 fn the_least_leaves_out_statements_without_a_sample(rt: HostRuntime) -> Result<(), Fail> {
     let alloc = rt.alloc();
     let tactics = [TacticName::Rfl, TacticName::Rw, TacticName::Exact];
-    assert!(rt; gives_least(alloc, 4, tactics.as_slice(), [2, 3, 4, 10, 11, 12].as_slice())?);
-    assert!(rt; gives(alloc, [0, 1, 2, 3].as_slice(), 4, tactics.as_slice(), [2, 3, 4, 10, 11, 12, 13].as_slice())?);
+    assert!(rt;
+        gives_least(
+            alloc,
+            4,
+            tactics.as_slice(),
+            [2, 3, 4, 10, 11, 12].as_slice()
+        )?
+    );
+    assert!(rt;
+        gives(
+            alloc,
+            [0, 1, 2, 3].as_slice(),
+            4,
+            tactics.as_slice(),
+            [2, 3, 4, 10, 11, 12, 13].as_slice()
+        )?
+    );
     Ok(())
 }
 
@@ -416,7 +591,8 @@ fn the_least_leaves_out_statements_without_a_sample(rt: HostRuntime) -> Result<(
 
 #[test]
 fn each_word_names_its_move(rt: HostRuntime) {
-    let words = "rfl rw induction intro exact apply cases left right constructor use symm exfalso have revert by_cases";
+    let words =
+        "rfl rw induction intro exact apply cases left right constructor use symm exfalso have revert by_cases";
     let mut rest = words.split(' ');
     for name in TacticName::ALL {
         assert_eq!(rt; rest.next(), Some(name.word()));

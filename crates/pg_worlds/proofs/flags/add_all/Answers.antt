@@ -1,4 +1,4 @@
-use Rattle.std.proofs.Common.{ap, subst, sym, ◌<◌, ℕ, length, arith}
+use Rattle.std.proofs.Common.{◌<◌, length, arith}
 use Rattle.pg_worlds.proofs.Flagged.{room_at, add_step}
 use Rattle.pg_worlds.proofs.flags.add_all.Goals as goal
 

@@ -1,4 +1,4 @@
-use Rattle.std.proofs.Common.{◌≡◌, ◌+◌, ◌-◌, ◌<◌, ◌∙◌, ℕ, sym, ap, subst, arith, true, false, ◌||◌, length}
+use Rattle.std.proofs.Common.{◌≡◌, ◌-◌, ◌<◌, ◌∙◌, ℕ, sym, ap, subst, arith, true, false, ◌||◌, length}
 use Rattle.std.specs.Prelude.{IsTrue, ◌↔◌, slice_index}
 use Rattle.pg_worlds.specs.Flags.{flag, has}
 use Rattle.pg_worlds.specs.Worlds.{needs_of}

@@ -1,5 +1,5 @@
-use Rattle.std.proofs.Common.{◌∙◌, sym, ap, subst, not, true}
-use Rattle.std.specs.Prelude.{Some, find, IsSome}
+use Rattle.std.proofs.Common.{◌∙◌, sym, ap, subst, not}
+use Rattle.std.specs.Prelude.{find, IsSome}
 use Rattle.std.proofs.lemmas.Bool.{not-true}
 use Rattle.pg_worlds.specs.Flags.{flag, has}
 use Rattle.pg_worlds.specs.Worlds.{needs_of}

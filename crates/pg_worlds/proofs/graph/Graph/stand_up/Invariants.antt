@@ -1,4 +1,4 @@
-use Rattle.std.proofs.Common.{◌≡◌, ◌+◌, ℕ}
+use Rattle.std.proofs.Common.{◌≡◌, ℕ}
 use Rattle.pg_worlds.specs.Flags.{flag, has}
 use Rattle.pg_worlds.specs.Worlds.{IsFirstEachTime}
 use Rattle.pg_worlds.proofs.Standing.{down}

@@ -1,20 +1,19 @@
-use Rattle.std.proofs.Common.{◌≡◌, ◌∙◌, ◌<◌, ◌≤◌, ◌||◌, ℕ, false, sym, ap, subst, arith, vec_len, [], ◌∷◌}
-use Rattle.std.specs.List.{list_any}
+use Rattle.std.proofs.Common.{◌∙◌, ◌<◌, ◌≤◌, ◌||◌, ℕ, sym, ap, arith, vec_len}
 use Rattle.std.specs.Prelude.{◌==◌}
 use Rattle.pg_worlds.specs.Flags.{flag, has}
 use Rattle.pg_worlds.specs.Moves.{place_of}
-use Rattle.pg_worlds.specs.Course.{Level, level_at}
+use Rattle.pg_worlds.specs.Course.{level_at}
 use Rattle.pg_worlds.specs.View.{level_of}
-use Rattle.pg_worlds.specs.Inventory.{Held, inventory, joined, unlocked, unlocked_by, has_move}
+use Rattle.pg_worlds.specs.Inventory.{inventory, joined, unlocked_by, has_move}
 use Rattle.pg_worlds.proofs.Places.{places_below}
 use Rattle.pg_worlds.proofs.Won.{same_inventory, won_more, own_last}
 use Rattle.pg_worlds.proofs.inventory.Unlocked.add_won.Goals as goal
 
 pub insert_all-requires : goal.insert_all-requires
 insert_all-requires c = λ k e.
-  let h : k < vec_len c.make_room.new.flags = c.in_ok-make_room.ensures.room k (ap (λ xs. has xs k) (c.as_slice.ensures ∙ sym c.as_slice-3.ensures) ∙ e) in
-  let l : vec_len c.make_room.new.flags ≤ vec_len c.insert_growing.new.flags = c.insert_growing.ensures.longer in
-  omega arith
+    let h : k < vec_len c.make_room.new.flags = c.in_ok-make_room.ensures.room k (ap (λ xs. has xs k) (c.as_slice.ensures ∙ sym c.as_slice-3.ensures) ∙ e) in
+    let l : vec_len c.make_room.new.flags ≤ vec_len c.insert_growing.new.flags = c.insert_growing.ensures.longer in
+    omega arith
 
 pub add_all-requires : goal.add_all-requires
 add_all-requires c = λ k e. let l : k < 16 = places_below c.as_slice-4.result.now k e in omega arith
@@ -31,6 +30,6 @@ returns-clause-ok c =
 
 pub returns-clause-won : goal.returns-clause-won
 returns-clause-won c = λ won e same.
-  returns-clause-ok c
-  ∙ ap (λ a. joined a (unlocked_by (level_at c.args.course.now c.args.level.0))) same
-  ∙ won_more c.args.course.now won c.args.level.0 c.requires e
+    returns-clause-ok c
+    ∙ ap (λ a. joined a (unlocked_by (level_at c.args.course.now c.args.level.0))) same
+    ∙ won_more c.args.course.now won c.args.level.0 c.requires e

@@ -1,6 +1,5 @@
-use Rattle.std.proofs.Common.{◌≡◌, ◌∙◌, ap, List, Bool}
+use Rattle.std.proofs.Common.{◌≡◌, ◌∙◌, List, Bool}
 use Rattle.std.proofs.lemmas.Result.{IfOk-weaker}
-use Rattle.pg_worlds.specs.Course.{level_at}
 use Rattle.pg_worlds.specs.Inventory.{available, inventory, unlocked, within}
 use Rattle.pg_worlds.proofs.inventory.Unlocked.available.Goals as goal
 

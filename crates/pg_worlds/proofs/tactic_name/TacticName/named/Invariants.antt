@@ -1,4 +1,4 @@
-use Rattle.std.proofs.Common.{◌≡◌, ◌≤◌, ℕ}
+use Rattle.std.proofs.Common.{◌≡◌, ◌≤◌}
 use Rattle.pg_worlds.specs.Moves.{place_of, word_of}
 use Rattle.pg_worlds.specs.declared.tactic_name.TacticName.{TacticName}
 use Rattle.pg_worlds.proofs.tactic_name.TacticName.named.Given as goal
