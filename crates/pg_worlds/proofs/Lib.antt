@@ -1,0 +1,9 @@
+pub mod Earlier
+pub mod Flagged
+pub mod Games
+pub mod OneOrder
+pub mod Places
+pub mod Reached
+pub mod Rounds
+pub mod Standing
+pub mod Won

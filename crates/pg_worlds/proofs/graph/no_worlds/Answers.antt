@@ -1,0 +1,5 @@
+use Rattle.pg_worlds.proofs.Standing.{all_down}
+use Rattle.pg_worlds.proofs.graph.no_worlds.Goals as goal
+
+pub returns-clause-down : goal.returns-clause-down
+returns-clause-down c = all_down 64

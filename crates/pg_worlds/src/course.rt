@@ -1,0 +1,156 @@
+// The levels in their order, and which of them are open.
+ghost use Rattle.std.specs.Prelude.{◌≡◌, ◌↔◌, ◌<◌, ◌≤◌, ◌⊎◌, ℕ, length, vec_len, IfOk, IsTrue, MatchOption, IfSome};
+ghost use Rattle.pg_worlds.specs.Flags.{flag};
+
+use crate::flags::has_flag;
+use crate::graph::{Graph, MOST_WORLDS, no_worlds};
+use crate::tactic_name::TacticName;
+use std::alloc::{AllocError, Global};
+use std::marker::Model;
+
+/// A level's place in the order of levels, from 0: worlds in their order, levels by number.
+#[derive(Clone, Copy, Debug, PartialEq, Eq)]
+pub struct LevelId(pub u16);
+
+/// What a level says of the moves and theorems that a player has.
+#[derive(Debug, Drop)]
+pub struct LevelItems {
+    /// The number of its world.
+    pub world: u16,
+    /// The moves of its `NewTactic`.
+    pub new_tactics: Vec<TacticName>,
+    /// The theorems of its `NewTheorem`, by number.
+    pub new_theorems: Vec<u32>,
+    /// The number of its own statement.
+    pub own: u32,
+    /// It has a sample.
+    pub sampled: bool,
+    /// The moves of its `DisabledTactic`.
+    pub disabled_tactics: Vec<TacticName>,
+    /// The theorems of its `DisabledTheorem`, by number.
+    pub disabled_theorems: Vec<u32>,
+    /// The moves of its `OnlyTactic`, where that stands.
+    pub only_tactics: Option<Vec<TacticName>>,
+    /// The theorems of its `OnlyTheorem`, by number, where that stands.
+    pub only_theorems: Option<Vec<u32>>,
+}
+
+/// The levels of a game in their order, over its worlds in their order.
+#[derive(Debug, Drop)]
+pub struct Course {
+    graph: Graph,
+    order: Vec<u16>,
+    items: Vec<LevelItems>,
+}
+
+impl Model for Course {
+    ghost use Rattle.pg_worlds.specs.Course.{Plan, IsPlan};
+    ghost use Rattle.pg_worlds.specs.View.{plan_of};
+
+    ghost Value = { Plan };
+
+    ghost view = { λ c. plan_of c.graph c.order.items c.items.items };
+
+    ghost invariant = { λ c. IsPlan (plan_of c.graph c.order.items c.items.items) };
+}
+
+impl Course {
+    ghost use Rattle.pg_worlds.specs.Course.{level_at, world_of, Needs, IsBefore, IsFirstMissing, IsLeastWon, IsOpen, IsPlan};
+    ghost use Rattle.pg_worlds.specs.View.{level_of, plan_of};
+
+    /// The course of these worlds, in an order of the graph, and of these levels in the order of levels. Takes no memory.
+    pub fn new(graph: Graph, order: Vec<u16>, items: Vec<LevelItems>) -> Course
+        requires { IsPlan (plan_of graph order.items items.items) }
+        ensures { result ≡ plan_of graph order.items items.items }
+    {
+        Course {
+            graph,
+            order,
+            items,
+        }
+    }
+
+    /// How many levels there are.
+    pub fn count(&self) -> usize
+        ensures count { result ≡ length self.now.levels }
+        ensures plan { IsPlan self.now }
+    {
+        self.items.len()
+    }
+
+    // What the level at this place says.
+    pub(crate) fn items(&self, at: usize) -> &LevelItems
+        requires { at < length self.now.levels }
+        ensures { level_of result.now ≡ level_at self.now at }
+    {
+        &self.items[at]
+    }
+
+    // Which worlds this world needs, directly or through others.
+    fn needed(&self, world: u16) -> [bool; MOST_WORLDS]
+        ensures needed { (k : ℕ) → IsTrue (flag result k) ↔ Needs self.now.worlds world k }
+        ensures plan { IsPlan self.now }
+    {
+        let mut needed = no_worlds();
+        self.graph.add_needs(world, &mut needed);
+        for at in (0..self.order.len()).rev() {
+            let behind = self.order[at];
+            if has_flag(&needed, behind as usize) {
+                self.graph.add_needs(behind, &mut needed);
+            }
+        }
+        needed
+    }
+
+    // Whether the level at place `at` stands before the one at place `level`, whose world needs `needed`.
+    fn is_before(&self, needed: &[bool], level: usize, at: usize) -> bool
+        requires needed { (k : ℕ) → IsTrue (flag needed.now k) ↔ Needs self.now.worlds (world_of self.now level) k }
+        requires level { level < length self.now.levels }
+        requires at { at < length self.now.levels }
+        ensures { IsTrue result ↔ IsBefore self.now level at }
+    {
+        let world = self.items(at).world;
+        has_flag(needed, world as usize) || (world == self.items(level).world && at < level)
+    }
+
+    /// Whether the level is open: all levels of all worlds that its world needs, directly or through others, and the
+    /// earlier levels of its world are won. `won` has one flag for each level. Takes no memory.
+    pub fn is_open(&self, won: &[bool], level: LevelId) -> bool
+        requires won { length won.now ≡ length self.now.levels }
+        requires level { level.0 < length self.now.levels }
+        ensures { IsTrue result ↔ IsOpen self.now won.now level.0 }
+    {
+        self.first_missing(won, level).is_none()
+    }
+
+    /// The first level, in the order of levels, that has to be won before this one is open and isn't, or None exactly
+    /// where the level is open. `won` has one flag for each level. Takes no memory.
+    pub fn first_missing(&self, won: &[bool], level: LevelId) -> Option<LevelId>
+        requires won { length won.now ≡ length self.now.levels }
+        requires level { level.0 < length self.now.levels }
+        ensures first { MatchOption result (IsOpen self.now won.now level.0) (λ missing. IsFirstMissing self.now won.now level.0 missing.0) }
+        ensures earlier { IfSome result (λ missing. missing.0 < level.0) }
+    {
+        let needed = self.needed(self.items(level.0 as usize).world);
+        for at in 0..level.0 {
+            if !won[at as usize] && self.is_before(&needed, level.0 as usize, at as usize) {
+                return Some(LevelId(at));
+            }
+        }
+        None
+    }
+
+    /// One flag for each level: just those levels are won that have to be, before this one is open.
+    pub fn least_won(&self, alloc: Global, level: LevelId) -> Result<Vec<bool>, AllocError>
+        requires { level.0 < length self.now.levels }
+        ensures least { IfOk result (λ won. IsLeastWon self.now level.0 won.items) }
+        ensures earlier { IfOk result (λ won. (k : ℕ) → IsTrue (flag won.items k) → k < level.0) }
+    {
+        let needed = self.needed(self.items(level.0 as usize).world);
+        let mut won = Vec::new(alloc);
+        for at in 0..self.count() {
+            won.push(self.is_before(&needed, level.0 as usize, at))?;
+        }
+        Ok(won)
+    }
+}

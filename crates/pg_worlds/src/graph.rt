@@ -1,0 +1,221 @@
+// The order of worlds.
+ghost use Rattle.std.specs.Prelude.{◌≡◌, ◌≤◌, ◌<◌, ℕ, ◌||◌, ◌&&◌, not, true, false, length, map, vec_len, slice_set, OnOk, IfOk, IfErr, MatchOption, IsTrue, ◌==◌, find, Some, drop, slice_index};
+ghost use Rattle.std.specs.List.{list_any};
+ghost use Rattle.pg_worlds.specs.declared.graph.WorldFault.TheVariants.{OutOfMemory};
+ghost use Rattle.pg_worlds.specs.Flags.{flag, has};
+ghost use Rattle.pg_worlds.specs.Worlds.{could_stand, needs_of, world_count, worlds_of, IsFirstBelow, IsFirstEachTime, IsGraph, IsLoopFrom, IsWorldOrder, WorldOrderLaw};
+ghost use Rattle.pg_worlds.specs.Fault.{IsOrderFault};
+
+use crate::flags::{add_all, first_without_flag, has_all_flags, has_flag};
+use std::alloc::{AllocError, Global};
+use std::marker::Model;
+use thiserror::Error;
+
+/// How many worlds a game has at most.
+pub(crate) const MOST_WORLDS: usize = 64;
+
+/// Why there is no order of the worlds.
+#[derive(Debug, Drop, Error)]
+pub enum WorldFault {
+    /// The worlds of a loop, each of which needs the next, and the last one the first.
+    #[error("the worlds {worlds:?} need each other")]
+    Loop { worlds: Vec<u16> },
+    /// No memory.
+    #[error("out of memory")]
+    OutOfMemory,
+}
+
+impl From<AllocError> for WorldFault {
+    ghost from_gives = { λ _ e. e ≡ OutOfMemory };
+
+    fn from(_: AllocError) -> WorldFault {
+        WorldFault::OutOfMemory
+    }
+}
+
+/// The worlds of a game in file order, with the number of levels and the needed worlds of each.
+#[derive(Debug, Drop)]
+pub struct Graph {
+    levels: Vec<u16>,
+    needs: Vec<Vec<u16>>,
+}
+
+impl Model for Graph {
+    ghost use Rattle.std.specs.Prelude.{map};
+    ghost use Rattle.pg_worlds.specs.Worlds.{Worlds, worlds_of, IsGraph};
+
+    ghost Value = { Worlds };
+
+    ghost view = { λ g. worlds_of g.levels.items (map (λ v. v.items) g.needs.items) };
+
+    ghost invariant = { λ g. IsGraph (worlds_of g.levels.items (map (λ v. v.items) g.needs.items)) };
+}
+
+impl Graph {
+    /// The worlds in file order: how many levels each has, and which worlds it needs, by number. Takes no memory.
+    pub fn new(levels: Vec<u16>, needs: Vec<Vec<u16>>) -> Graph
+        requires { IsGraph (worlds_of levels.items (map (λ v. v.items) needs.items)) }
+        ensures { result ≡ worlds_of levels.items (map (λ v. v.items) needs.items) }
+    {
+        Graph { levels, needs }
+    }
+
+    /// How many worlds there are.
+    pub(crate) fn count(&self) -> usize
+        ensures count { result ≡ world_count self.now }
+        ensures graph { IsGraph self.now }
+    {
+        self.needs.len()
+    }
+
+    /// The worlds that this world needs, by number.
+    pub(crate) fn needs(&self, world: u16) -> &[u16]
+        ensures needs { result.now ≡ needs_of self.now world }
+        ensures graph { IsGraph self.now }
+    {
+        if (world as usize) < self.needs.len() {
+            self.needs[world as usize].as_slice()
+        } else {
+            &[]
+        }
+    }
+
+    /// Sets the flags of the worlds that this world needs.
+    pub(crate) fn add_needs(&self, world: u16, flags: &mut [bool])
+        requires { length flags.old ≡ 64 }
+        ensures { (k : ℕ) → flag flags.new k ≡ (flag flags.old k || has (needs_of self.now world) k) }
+    {
+        add_all(flags, self.needs(world));
+    }
+
+    // Whether this world doesn't stand yet and all its needs do.
+    fn could_stand(&self, stands: &[bool], world: u16) -> bool
+        requires { world < world_count self.now }
+        ensures { result ≡ could_stand self.now (flag stands.now) world }
+    {
+        !has_flag(stands, world as usize) && has_all_flags(stands, self.needs(world))
+    }
+
+    // The first world in file order that could stand next.
+    fn first_ready(&self, stands: &[bool]) -> Option<u16>
+        ensures { MatchOption result
+            ((w : ℕ) → w < world_count self.now → could_stand self.now (flag stands.now) w ≡ false)
+            (IsFirstBelow (world_count self.now) (could_stand self.now (flag stands.now))) }
+    {
+        for world in 0..self.count() as u16 {
+            if self.could_stand(stands, world) {
+                return Some(world);
+            }
+        }
+        None
+    }
+
+    // The first world in file order that doesn't stand.
+    fn first_down(&self, stands: &[bool]) -> Option<u16>
+        ensures { MatchOption result
+            ((w : ℕ) → w < world_count self.now → flag stands.now w ≡ true)
+            (IsFirstBelow (world_count self.now) (λ w. not (flag stands.now w))) }
+    {
+        for down in 0..self.count() as u16 {
+            if !has_flag(stands, down as usize) {
+                return Some(down);
+            }
+        }
+        None
+    }
+
+    // Puts a world into the order, and its flag into `stands`, as long as one could stand.
+    fn stand_up(
+        &self,
+        alloc: Global,
+        stands: &mut [bool; MOST_WORLDS],
+    ) -> Result<Vec<u16>, AllocError>
+        requires { (k : ℕ) → flag stands.old k ≡ false }
+        ensures first { IfOk result (λ order. IsFirstEachTime self.now order.items) }
+        ensures stands { IfOk result (λ order. (k : ℕ) → flag stands.new k ≡ has order.items k) }
+        ensures graph { IsGraph self.now }
+        ensures stuck { OnOk result ((w : ℕ) → w < world_count self.now → could_stand self.now (flag stands.new) w ≡ false) }
+    {
+        let mut order = Vec::with_capacity(alloc, self.count())?;
+        while let Some(world) = self.first_ready(stands) {
+            stands[world as usize] = true;
+            order.push(world)?;
+        }
+        Ok(order)
+    }
+
+    // The first need of this world that doesn't stand.
+    fn next_down(&self, stands: &[bool], world: u16) -> u16
+        requires world { world < world_count self.now }
+        requires down { flag stands.now world ≡ false }
+        requires stuck { could_stand self.now (flag stands.now) world ≡ false }
+        ensures first { find (λ v. not (flag stands.now v)) (needs_of self.now world) ≡ Some result }
+        ensures world { result < world_count self.now }
+        ensures down { flag stands.now result ≡ false }
+    {
+        first_without_flag(stands, self.needs(world)).unwrap()
+    }
+
+    // Follows from this world the first need that doesn't stand, until a world comes twice, and gives the worlds met
+    // from its first coming on.
+    fn loop_from(&self, alloc: Global, stands: &[bool], start: u16) -> Result<Vec<u16>, AllocError>
+        requires start { start < world_count self.now }
+        requires down { flag stands.now start ≡ false }
+        requires stuck { (w : ℕ) → w < world_count self.now → could_stand self.now (flag stands.now) w ≡ false }
+        ensures { IfOk result (λ worlds. IsLoopFrom self.now (flag stands.now) start worlds.items) }
+    {
+        let mut met = no_worlds();
+        let mut walk = Vec::with_capacity(alloc, self.count())?;
+        let mut world = start;
+        while !met[world as usize] {
+            met[world as usize] = true;
+            walk.push(world)?;
+            world = self.next_down(stands, world);
+        }
+        from_first(alloc, &walk, world)
+    }
+
+    /// The order of worlds, by number: again and again the first world in file order all of whose needs stand.
+    ///
+    /// `Loop` comes exactly where there is no order. From the first world that can't stand, its first need that can't
+    /// stand is followed until a world comes twice; the loop is the worlds met from its first coming on, in that order.
+    pub fn order(&self, alloc: Global) -> Result<Vec<u16>, WorldFault>
+        ensures ok { IfOk result (λ order. IsWorldOrder self.now order.items) }
+        ensures err { IfErr result (IsOrderFault self.now) }
+        ensures graph { IsGraph self.now }
+    {
+        let mut stands = no_worlds();
+        let order = self.stand_up(alloc, &mut stands)?;
+        let Some(start) = self.first_down(&stands) else {
+            return Ok(order);
+        };
+        let worlds = self.loop_from(alloc, &stands, start)?;
+        Err(WorldFault::Loop { worlds })
+    }
+}
+
+/// A law: an order has each world once, behind its needs, and there is no other order.
+pub fn world_order_law()
+    ensures { WorldOrderLaw }
+{}
+
+// Flags of worlds, all of them down.
+pub(crate) fn no_worlds() -> [bool; MOST_WORLDS]
+    ensures down { (k : ℕ) → flag result k ≡ false }
+    ensures length { length result ≡ 64 }
+{
+    [false; MOST_WORLDS]
+}
+
+// The list from the first coming of this world on.
+fn from_first(alloc: Global, walk: &[u16], world: u16) -> Result<Vec<u16>, AllocError>
+    requires { has walk.now world ≡ true }
+    ensures { IfOk result (λ v. (p : ℕ) × (p < length walk.now) × (slice_index walk.now p ≡ world) × (v.items ≡ drop p walk.now)) }
+{
+    for (i, met) in walk.iter().enumerate() {
+        if *met == world {
+            return walk[i..].to_vec(alloc);
+        }
+    }
+    unreachable!()
+}
