@@ -1,0 +1,7 @@
+//! Signatures: functions by primitive recursion, constants and predicates with their names, and the
+//! axioms that they bring.
+#![tactic(auto)]
+
+mod signature;
+
+pub use signature::Signature;
