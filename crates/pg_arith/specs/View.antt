@@ -1,7 +1,7 @@
 -- The declarations that the Rust type stands for.
 use Rattle.std.specs.Prelude.{◌≡◌, ℕ, List, map, codes}
 use Rattle.pg_logic.specs.Signature as logic
-use Rattle.pg_logic.specs.Declarations.{by_recursion, by_term, NamedFunction, NamedPredicate, Declarations, signature_of, AreDeclared}
+use Rattle.pg_logic.specs.Declarations.{by_recursion, by_term, NamedFunction, NamedPredicate, Declarations, function_of, predicate_of, signature_of, AreDeclared}
 use Rattle.pg_terms.specs.View.{term, formula}
 use Rattle.pg_arith.specs.declared.signature.Function.{Function}
 use Rattle.pg_arith.specs.declared.signature.Function.TheVariants.{Recursive, Constant}
@@ -19,6 +19,13 @@ functions fs = map function fs
 
 abbrev pub predicates : List Predicate → List NamedPredicate
 predicates ps = map predicate ps
+
+-- the same without names
+abbrev pub plain_functions : List Function → List logic.Function
+plain_functions fs = map function_of (functions fs)
+
+abbrev pub plain_predicates : List Predicate → List logic.Predicate
+plain_predicates ps = map predicate_of (predicates ps)
 
 -- what is declared, with the names
 abbrev pub declarations : List Function × List Predicate → Declarations

@@ -2,6 +2,8 @@
 //! axioms that they bring.
 #![tactic(auto)]
 
+mod checks;
+mod fitting;
 mod signature;
 
 pub use signature::Signature;
