@@ -3,6 +3,7 @@ use Rattle.std.proofs.Common.{◌≡◌, ℕ, ◌+◌, ◌<◌, List, [], ◌∷
 use Rattle.std.specs.Prelude.{Option, Some, None, option_map, slice_get}
 use Rattle.std.specs.Option.{option_or}
 use Rattle.std.proofs.Math.Seq.{drop-cons}
+use Rattle.std.proofs.lemmas.List.Folds.{list_any-append}
 use Rattle.std.proofs.lemmas.Option.{slice_get-map}
 use Rattle.pg_logic.specs.Signature.{count}
 use Rattle.pg_logic.specs.Declarations.{first, unless_true}
@@ -21,3 +22,5 @@ first-append [] ys = refl
 first-append (x ∷ xs) ys = refl
 
 pub ruleset firsts = (first-append)
+
+pub ruleset names = (list_any-append)

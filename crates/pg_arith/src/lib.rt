@@ -2,8 +2,11 @@
 //! axioms that they bring.
 #![tactic(auto)]
 
+mod axioms;
 mod checks;
+mod declaring;
 mod fitting;
 mod signature;
 
+pub use declaring::DeclareFault;
 pub use signature::Signature;

@@ -63,8 +63,8 @@ pub struct Predicate {
 /// both lists; `declarations` of them is what they say, and `signature` the same without names.
 #[derive(Debug, Drop)]
 pub struct Signature {
-    functions: Items<Function>,
-    predicates: Items<Predicate>,
+    pub(crate) functions: Items<Function>,
+    pub(crate) predicates: Items<Predicate>,
     succ_inj: Name,
     zero_ne_succ: Name,
 }

@@ -149,16 +149,28 @@ function_refusal d (by_term name body equation_name) =
 abbrev pub predicate_refusal : Declarations → NamedPredicate → Option Refusal
 predicate_refusal d p = refusal_by (clash (names_of d) (p.name ∷ [])) (first (undeclared_in (signature_of d) p.body)) p.arity (first (loose_in p.arity 0 p.body))
 
--- each parameter of a function has a name
+-- a function by recursion has a parameter, and each of its parameters has a name
 abbrev pub HasParameters : NamedFunction → Type 0
-HasParameters (by_recursion name n params base step zero_name succ_name) = (length params ≡ n) × (n ≤ 4)
+HasParameters (by_recursion name n params base step zero_name succ_name) = (0 < n) × (length params ≡ n)
 HasParameters (by_term name body equation_name) = Unit {0}
 
--- what holds of all declarations: each is over those before it, all names differ, no arity is over 4, each parameter has a name, and the numbers fit 16 bits
+-- what holds of all declarations: each is over those before it, all names differ, each parameter has a name, no arity is over 4, and the numbers fit 16 bits
 pub record AreDeclared (d : Declarations) : Type 0 where
   pub declared : IsDeclared (signature_of d)
   pub names_differ : clash [] (names_of d) ≡ false
-  pub parameters : (k : ℕ) (f : NamedFunction) → slice_get d.functions k ≡ Some f → HasParameters f
-  pub arities : (k : ℕ) (p : NamedPredicate) → slice_get d.predicates k ≡ Some p → p.arity ≤ 4
+  pub parameters : (k : ℕ) (f : NamedFunction) → slice_get d.functions k ≡ Some f → HasParameters f × (arity_of f ≤ 4)
+  pub predicate_arities : (k : ℕ) (p : NamedPredicate) → slice_get d.predicates k ≡ Some p → p.arity ≤ 4
   pub function_room : length d.functions < 2 ^ 16
   pub predicate_room : length d.predicates < 2 ^ 16
+
+-- one more function is declared: nothing refuses it, and it has the next number
+pub record AddsFunction (old new : Declarations) (f : NamedFunction) (id : ℕ) : Type 0 where
+  pub no_refusal : function_refusal old f ≡ None
+  pub next : id ≡ length old.functions
+  pub added : new ≡ with_function old f
+
+-- one more predicate is declared
+pub record AddsPredicate (old new : Declarations) (p : NamedPredicate) (id : ℕ) : Type 0 where
+  pub no_refusal : predicate_refusal old p ≡ None
+  pub next : id ≡ length old.predicates
+  pub added : new ≡ with_predicate old p
