@@ -1,12 +1,14 @@
 -- Lists of arguments, of declarations and of numbers, a piece at a time.
-use Rattle.std.proofs.Common.{◌≡◌, ℕ, ◌+◌, ◌<◌, List, [], ◌∷◌, ◌++◌, length, get_or, drop, map, Bool, true, false, ◌&&◌, suc, refl, arith, ap, ◌∙◌, sym}
+use Rattle.std.proofs.Common.{◌≡◌, ℕ, ◌+◌, ◌-◌, ◌<◌, List, [], ◌∷◌, ◌++◌, length, get_or, drop, take, map, Bool, true, false, ◌&&◌, suc, refl, arith, ap, ◌∙◌, sym, append-nil}
 use Rattle.std.specs.Prelude.{Option, Some, None, option_map, slice_get}
 use Rattle.std.specs.Option.{option_or}
 use Rattle.std.proofs.Math.Seq.{drop-cons}
 use Rattle.std.proofs.lemmas.List.Folds.{list_any-append}
 use Rattle.std.proofs.lemmas.Option.{slice_get-map}
+use Rattle.pg_logic.specs.Tree.{Fm, all}
 use Rattle.pg_logic.specs.Signature.{count}
-use Rattle.pg_logic.specs.Declarations.{first, unless_true}
+use Rattle.pg_logic.specs.Axioms.{quantified}
+use Rattle.pg_logic.specs.Declarations.{Name, first, unless_true}
 use Rattle.pg_terms.specs.declared.term.Term.{Term}
 use Rattle.pg_terms.specs.View.{term, args}
 
@@ -24,3 +26,16 @@ first-append (x ∷ xs) ys = refl
 pub ruleset firsts = (first-append)
 
 pub ruleset names = (list_any-append)
+
+pub ruleset ends = (append-nil)
+
+take_all : (names : List Name) → take (length names) names ≡ names
+take_all [] = refl
+take_all (n ∷ ns) = ap (λ l. n ∷ l) (take_all ns)
+
+-- the outermost quantifier
+pub quantified_first : (names : List Name) (x y : Name) (a : Fm) → 0 < length names → x ≡ y → y ≡ get_or names 0 y → quantified names a ≡ all x (quantified (take (length names - 1) (drop 1 names)) a)
+quantified_first [] x y a lt e is = absurd (omega arith)
+quantified_first (n ∷ ns) x y a lt e is =
+    let long : suc (length ns) - 1 ≡ length ns = omega arith in
+    ap (λ n. all n (quantified ns a)) (sym (e ∙ is)) ∙ ap (λ l. all x (quantified l a)) (sym (ap (λ k. take k ns) long ∙ take_all ns))

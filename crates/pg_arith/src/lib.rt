@@ -6,6 +6,7 @@ mod axioms;
 mod checks;
 mod declaring;
 mod fitting;
+mod lookups;
 mod signature;
 
 pub use declaring::DeclareFault;

@@ -65,8 +65,8 @@ pub struct Predicate {
 pub struct Signature {
     pub(crate) functions: Items<Function>,
     pub(crate) predicates: Items<Predicate>,
-    succ_inj: Name,
-    zero_ne_succ: Name,
+    pub(crate) succ_inj: Name,
+    pub(crate) zero_ne_succ: Name,
 }
 
 impl Model for Signature {

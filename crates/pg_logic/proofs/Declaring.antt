@@ -141,7 +141,7 @@ nothing false None arity astray e =
     let p = few_of (nat_lt 4 arity) arity astray e in
     record { free_names = refl; none_later = refl; few = ltb-false 4 arity p.0; none_astray = p.1 }
 
-map_push : {A B : Type 0} → (f : A → B) (xs : List A) (x : A) → map f (xs ++ x ∷ []) ≡ map f xs ++ f x ∷ []
+pub map_push : {A B : Type 0} → (f : A → B) (xs : List A) (x : A) → map f (xs ++ x ∷ []) ≡ map f xs ++ f x ∷ []
 map_push f [] x = refl
 map_push f (y ∷ ys) x = ap (λ l. f y ∷ l) (map_push f ys x)
 
