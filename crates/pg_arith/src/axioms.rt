@@ -53,6 +53,14 @@ fn binders(alloc: Global, n: u16) -> Result<Items<Term>, AllocError>
     outer_binders(alloc, n, 0)
 }
 
+/// The variables of `n` binders, the outermost first, without the innermost.
+fn binders_but_last(alloc: Global, n: u16) -> Result<Items<Term>, AllocError>
+    requires { 0 < n }
+    ensures { IfOk result (λ ts. terms ts ≡ take (n - 1) (logic.binders n)) }
+{
+    outer_binders(alloc, n, 1)
+}
+
 /// The equation of two terms.
 fn equation(
     alloc: Global,
@@ -79,7 +87,7 @@ fn at_succ(alloc: Global, k: u16, n: u16) -> Result<Boxed<Term>, AllocError>
     requires { 0 < n }
     ensures { IfOk result (λ t. term t ≡ tree.app k (tree.args_of (take (n - 1) (logic.binders n) ++ tree.succ (tree.bound 0) ∷ []))) }
 {
-    let mut arguments = outer_binders(alloc, n, 1)?;
+    let mut arguments = binders_but_last(alloc, n)?;
     arguments.push(Term::succ(alloc, Term::Bound(0))?)?;
     Boxed::new(alloc, Term::App(k, arguments))
 }
