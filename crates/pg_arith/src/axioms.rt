@@ -1,7 +1,7 @@
 //! The axioms of a signature, in their order: two of the numbers, then the equations of the
 //! functions in order of declaration.
 
-ghost use Rattle.std.specs.Prelude.{◌≡◌, ◌≢◌, ℕ, ◌+◌, ◌-◌, ◌^◌, ◌<◌, ◌≤◌, [], ◌++◌, ◌∷◌, length, take, slice_get, option_map, Some, IfOk, IfSome, MatchOption};
+ghost use Rattle.std.specs.Prelude.{◌≡◌, ℕ, ◌+◌, ◌-◌, ◌^◌, ◌<◌, ◌≤◌, [], ◌++◌, ◌∷◌, length, take, slice_get, option_map, Some, IfOk, IfSome, MatchOption};
 ghost use Rattle.pg_logic.specs.Axioms as logic;
 ghost use Rattle.pg_logic.specs.Declarations.{HasParameters};
 ghost use Rattle.pg_logic.specs.Tree as tree;
@@ -12,6 +12,17 @@ use crate::signature::{Constant, Function, Recursion, Signature};
 use pg_terms::{Formula, Name, Term};
 use sqlite_items::{Boxed, Items};
 use std::alloc::{AllocError, Global};
+
+/// The universal formula of this body.
+fn for_all(
+    alloc: Global,
+    name: Name,
+    body: Boxed<Formula>,
+) -> Result<Boxed<Formula>, AllocError>
+    ensures { IfOk result (λ a. formula a ≡ tree.all name (formula body)) }
+{
+    Boxed::new(alloc, Formula::All(name, body))
+}
 
 /// A formula under universal quantifiers with these names, the outermost first.
 fn quantified(
@@ -26,7 +37,7 @@ fn quantified(
         [name, more @ ..] => {
             let name = name.copied(alloc)?;
             let a = quantified(alloc, more, body)?;
-            Boxed::new(alloc, Formula::All(name, a))
+            for_all(alloc, name, a)
         }
     }
 }
@@ -155,19 +166,6 @@ fn succ_of(alloc: Global, i: u32) -> Result<Boxed<Term>, AllocError>
     Boxed::new(alloc, Term::succ(alloc, Term::Bound(i))?)
 }
 
-/// The universal formula of this body.
-fn all(
-    alloc: Global,
-    name: &str,
-    body: Boxed<Formula>,
-) -> Result<Boxed<Formula>, AllocError>
-    requires { name.now ≢ [] }
-    ensures { IfOk result (λ a. formula a ≡ tree.all name.now (formula body)) }
-{
-    let name = Name::new(alloc, name)?;
-    Boxed::new(alloc, Formula::All(name, body))
-}
-
 /// Equal successors are of equal numbers.
 fn succ_inj(alloc: Global) -> Result<Boxed<Formula>, AllocError>
     ensures { IfOk result (λ a. formula a ≡ logic.succ_inj) }
@@ -175,7 +173,8 @@ fn succ_inj(alloc: Global) -> Result<Boxed<Formula>, AllocError>
     let given = equation(alloc, succ_of(alloc, 1)?, succ_of(alloc, 0)?)?;
     let then = Boxed::new(alloc, Formula::Eq(Term::Bound(1), Term::Bound(0)))?;
     let body = Boxed::new(alloc, Formula::Imp(given, then))?;
-    all(alloc, "a", all(alloc, "b", body)?)
+    let inner = for_all(alloc, Name::new(alloc, "b")?, body)?;
+    for_all(alloc, Name::new(alloc, "a")?, inner)
 }
 
 /// Zero is no successor.
@@ -185,7 +184,8 @@ fn zero_ne_succ(alloc: Global) -> Result<Boxed<Formula>, AllocError>
     let zero = Boxed::new(alloc, Term::Zero)?;
     let given = equation(alloc, zero, succ_of(alloc, 0)?)?;
     let falsum = Boxed::new(alloc, Formula::Falsum)?;
-    all(alloc, "a", Boxed::new(alloc, Formula::Imp(given, falsum))?)
+    let body = Boxed::new(alloc, Formula::Imp(given, falsum))?;
+    for_all(alloc, Name::new(alloc, "a")?, body)
 }
 
 /// How many equations a function has.

@@ -1,4 +1,4 @@
-use Rattle.std.proofs.Common.{◌≡◌, ap, sym, ◌∙◌}
+use Rattle.std.proofs.Common.{ap, sym, ◌∙◌}
 use Rattle.std.proofs.lemmas.Result.{IfOk-weaker}
 use Rattle.pg_logic.specs.Tree.{all}
 use Rattle.pg_terms.specs.View.{formula}
@@ -10,5 +10,4 @@ returns-in_ok-a-in-len1-up t c =
     let names = c.args.names.now in
     let first = quantified_first names c.in_ok-name-in-len1-up.name c.name-item.result (formula c.args.body) c.in-len1-up.len_at_least c.in_ok-name-in-len1-up.ensures c.name-item.is in
     let name = c.in_ok-name-in-len1-up.name in
-    let rest = c.in_ok-a-in-len1-up.a in
-    IfOk-weaker c.new.result _ _ (λ x e. let made : formula x ≡ all name (formula rest) = ap formula e in made ∙ ap (all name) c.in_ok-a-in-len1-up.ensures ∙ sym first) c.new.ensures
+    IfOk-weaker c.for_all.result _ _ (λ x e. e ∙ ap (all name) c.in_ok-a-in-len1-up.ensures ∙ sym first) c.for_all.ensures
