@@ -8,6 +8,8 @@ mod declaring;
 mod fitting;
 mod lookups;
 mod signature;
+#[cfg(test)]
+mod tests;
 
 pub use declaring::DeclareFault;
 pub use signature::Signature;
