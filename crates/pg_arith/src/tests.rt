@@ -4,7 +4,6 @@ use crate::{DeclareFault, Signature};
 use pg_terms::{Formula, Name, Term};
 use sqlite_items::{Boxed, Items};
 use std::alloc::{AllocError, Global};
-use std::test::Fail;
 
 // ---- trees and names
 
@@ -43,6 +42,12 @@ fn sum(alloc: Global, s: Boxed<Term>, t: Boxed<Term>) -> Result<Boxed<Term>, All
     Boxed::new(alloc, Term::App(0, arguments))
 }
 
+/// The same of two terms as they stand.
+fn plus(alloc: Global, s: Term, t: Term) -> Result<Boxed<Term>, AllocError> {
+    let s = Boxed::new(alloc, s)?;
+    sum(alloc, s, Boxed::new(alloc, t)?)
+}
+
 fn equation(
     alloc: Global,
     s: Boxed<Term>,
@@ -58,19 +63,6 @@ fn all(alloc: Global, x: &str, a: Boxed<Formula>) -> Result<Boxed<Formula>, Allo
 
 fn predicate(alloc: Global, p: u16) -> Result<Boxed<Formula>, AllocError> {
     Boxed::new(alloc, Formula::Pred(p, Items::new(alloc)))
-}
-
-/// The names of the universal quantifiers that a formula begins with, each with a blank.
-fn binders(alloc: Global, a: &Formula) -> Result<String, AllocError> {
-    match a {
-        Formula::All(x, body) => {
-            let mut text = String::from_str(alloc, x.as_str())?;
-            text.push_str(" ")?;
-            text.push_str(binders(alloc, body.get())?.as_str())?;
-            Ok(text)
-        }
-        _ => Ok(String::new(alloc)),
-    }
 }
 
 // ---- declarations
@@ -146,174 +138,231 @@ fn declare_one(sig: &mut Signature, alloc: Global) -> Result<u16, DeclareFault> 
 
 /// `a ≤ b`, which is `∃ c, b = a + c`.
 fn declare_order(sig: &mut Signature, alloc: Global) -> Result<u16, DeclareFault> {
-    let right = sum(
-        alloc,
-        leaf(alloc, Term::Free(0))?,
-        leaf(alloc, Term::Bound(0))?,
-    )?;
+    let right = plus(alloc, Term::Free(0), Term::Bound(0))?;
     let body = equation(alloc, leaf(alloc, Term::Free(1))?, right)?;
     let body = Boxed::new(alloc, Formula::Ex(name(alloc, "c")?, body))?;
     relation(sig, alloc, "≤", 2, body)
 }
 
-fn game(alloc: Global) -> Result<Signature, Fail> {
+fn game(alloc: Global) -> Result<Signature, DeclareFault> {
     let mut sig = Signature::new(alloc)?;
-    let numbers = (
-        declare_sum(&mut sig, alloc),
-        declare_one(&mut sig, alloc),
-        declare_order(&mut sig, alloc),
-    );
-    if numbers == (Ok(0), Ok(1), Ok(0)) {
-        Ok(sig)
-    } else {
-        Err(Fail::from("a declaration is refused"))
+    declare_sum(&mut sig, alloc)?;
+    declare_one(&mut sig, alloc)?;
+    declare_order(&mut sig, alloc)?;
+    Ok(sig)
+}
+
+// ---- one more declaration in the game
+
+fn one_more_constant(
+    alloc: Global,
+    names: [&str; 2],
+    body: Boxed<Term>,
+) -> Result<u16, DeclareFault> {
+    let mut sig = game(alloc)?;
+    constant(&mut sig, alloc, names, body)
+}
+
+fn one_more_relation(
+    alloc: Global,
+    own: &str,
+    arity: u16,
+    body: Boxed<Formula>,
+) -> Result<u16, DeclareFault> {
+    let mut sig = game(alloc)?;
+    relation(&mut sig, alloc, own, arity, body)
+}
+
+/// A function `*` of so many arguments, by its base and its step.
+fn one_more_function(
+    alloc: Global,
+    arity: u16,
+    base: Boxed<Term>,
+    step: Boxed<Term>,
+) -> Result<u16, DeclareFault> {
+    let mut sig = game(alloc)?;
+    function(&mut sig, alloc, ["*", "mul_zero", "mul_succ"], arity, base, step)
+}
+
+/// The same of two variables or calls without arguments.
+fn one_more_simple(
+    alloc: Global,
+    arity: u16,
+    base: Simple,
+    step: Simple,
+) -> Result<u16, DeclareFault> {
+    let base = simple(alloc, base)?;
+    one_more_function(alloc, arity, base, simple(alloc, step)?)
+}
+
+#[derive(Clone, Copy, Debug)]
+enum Simple {
+    Free(u32),
+    Bound(u32),
+    Call(u16),
+}
+
+fn simple(alloc: Global, t: Simple) -> Result<Boxed<Term>, AllocError> {
+    match t {
+        Simple::Free(i) => leaf(alloc, Term::Free(i)),
+        Simple::Bound(i) => leaf(alloc, Term::Bound(i)),
+        Simple::Call(f) => call(alloc, f),
     }
+}
+
+/// A constant of this name whose equation has that one.
+fn named(alloc: Global, own: &str, equation: &str) -> Result<u16, DeclareFault> {
+    one_more_constant(alloc, [own, equation], leaf(alloc, Term::Zero)?)
+}
+
+/// `0 = t`.
+fn zero_is(alloc: Global, t: Simple) -> Result<Boxed<Formula>, AllocError> {
+    let zero = leaf(alloc, Term::Zero)?;
+    equation(alloc, zero, simple(alloc, t)?)
 }
 
 // ---- the tests
 
 #[test]
-fn a_name_is_taken_once(rt: HostRuntime) -> Result<(), Fail> {
+fn a_name_is_taken_once(rt: HostRuntime) {
     let alloc = rt.alloc();
-    let mut sig = game(alloc)?;
-    for names in [
-        ["+", "x"],
-        ["x", "add_succ"],
-        ["one_eq", "x"],
-        ["x", "≤"],
-        ["succ_inj", "x"],
-        ["x", "zero_ne_succ"],
-        ["x", "x"],
+    for (own, equation) in [
+        ("+", "x"),
+        ("x", "add_succ"),
+        ("one_eq", "x"),
+        ("x", "≤"),
+        ("succ_inj", "x"),
+        ("x", "zero_ne_succ"),
+        ("x", "x"),
     ] {
-        let refused = constant(&mut sig, alloc, names, leaf(alloc, Term::Zero)?);
-        assert_eq!(rt; refused, Err(DeclareFault::NameTaken), "at {}", names[0]);
+        assert_eq!(rt; named(alloc, own, equation), Err(DeclareFault::NameTaken), "at {own}");
     }
-    let refused = relation(&mut sig, alloc, "add_zero", 0, predicate(alloc, 0)?);
-    assert_eq!(rt; refused, Err(DeclareFault::NameTaken));
-    assert_eq!(rt; sig.function_count(), 2);
-    assert_eq!(rt; sig.predicate_count(), 1);
-    Ok(())
+    assert_eq!(rt; named(alloc, "x", "y"), Ok(2));
 }
 
-/// Terms at which a number is used that is not declared before, or with another arity.
-fn uses_later(alloc: Global, sig: &mut Signature) -> Result<[Result<u16, DeclareFault>; 4], Fail> {
-    let own = call(alloc, 2)?;
+/// Constants and a predicate over what is not declared.
+fn over_later(alloc: Global) -> Result<[Result<u16, DeclareFault>; 2], AllocError> {
     let narrow = call_one(alloc, 0, call(alloc, 9)?)?;
+    let narrow = one_more_constant(alloc, ["2", "two_eq"], narrow);
     let outer = call_one(alloc, 7, call(alloc, 8)?)?;
-    Ok([
-        constant(sig, alloc, ["2", "two_eq"], own),
-        constant(sig, alloc, ["2", "two_eq"], narrow),
-        constant(sig, alloc, ["2", "two_eq"], outer),
-        relation(sig, alloc, "<", 0, predicate(alloc, 1)?),
-    ])
+    Ok([narrow, one_more_constant(alloc, ["2", "two_eq"], outer)])
+}
+
+fn over_itself(alloc: Global) -> Result<[Result<u16, DeclareFault>; 2], AllocError> {
+    let own = one_more_constant(alloc, ["2", "two_eq"], call(alloc, 2)?);
+    Ok([own, one_more_relation(alloc, "<", 0, predicate(alloc, 1)?)])
+}
+
+const fn later(id: u16) -> Result<u16, DeclareFault> {
+    Err(DeclareFault::UsesLater { id })
+}
+
+const fn loose(id: u32) -> Result<u16, DeclareFault> {
+    Err(DeclareFault::LooseVariable { id })
 }
 
 #[test]
-fn the_first_number_in_preorder_is_told(rt: HostRuntime) -> Result<(), Fail> {
+fn the_first_number_in_preorder_is_told(rt: HostRuntime) {
     let alloc = rt.alloc();
-    let mut sig = game(alloc)?;
-    let refused = uses_later(alloc, &mut sig)?;
-    assert_eq!(rt; refused[0], Err(DeclareFault::UsesLater { id: 2 }));
-    assert_eq!(rt; refused[1], Err(DeclareFault::UsesLater { id: 0 }));
-    assert_eq!(rt; refused[2], Err(DeclareFault::UsesLater { id: 7 }));
-    assert_eq!(rt; refused[3], Err(DeclareFault::UsesLater { id: 1 }));
-    assert_eq!(rt; sig.function_count(), 2);
-    Ok(())
-}
-
-const TIMES: [&str; 3] = ["*", "mul_zero", "mul_succ"];
-
-#[test]
-fn the_base_comes_before_the_step(rt: HostRuntime) -> Result<(), Fail> {
-    let alloc = rt.alloc();
-    let mut sig = game(alloc)?;
-    let (base, step) = (call(alloc, 8)?, call(alloc, 7)?);
-    let refused = function(&mut sig, alloc, TIMES, 2, base, step);
-    assert_eq!(rt; refused, Err(DeclareFault::UsesLater { id: 8 }));
-    let (base, step) = (leaf(alloc, Term::Free(9))?, leaf(alloc, Term::Free(8))?);
-    let refused = function(&mut sig, alloc, TIMES, 2, base, step);
-    assert_eq!(rt; refused, Err(DeclareFault::LooseVariable { id: 9 }));
-    Ok(())
-}
-
-/// What is refused where a variable is loose: the last argument in the base, one more in the step,
-/// a bound one without a binder.
-fn strays(alloc: Global, sig: &mut Signature) -> Result<[Result<u16, DeclareFault>; 3], Fail> {
-    let (base, step) = (leaf(alloc, Term::Free(1))?, leaf(alloc, Term::Free(2))?);
-    let in_base = function(sig, alloc, TIMES, 2, base, step);
-    let (base, step) = (leaf(alloc, Term::Free(0))?, leaf(alloc, Term::Free(3))?);
-    let in_step = function(sig, alloc, TIMES, 2, base, step);
-    let body = equation(alloc, leaf(alloc, Term::Zero)?, leaf(alloc, Term::Bound(1))?)?;
-    let in_body = relation(sig, alloc, "<", 0, all(alloc, "x", body)?);
-    Ok([in_base, in_step, in_body])
+    assert_eq!(rt; over_later(alloc), Ok([later(0), later(7)]));
+    assert_eq!(rt; over_itself(alloc), Ok([later(2), later(1)]));
 }
 
 #[test]
-fn a_loose_variable_is_told(rt: HostRuntime) -> Result<(), Fail> {
+fn the_base_comes_before_the_step(rt: HostRuntime) {
     let alloc = rt.alloc();
-    let mut sig = game(alloc)?;
-    let refused = strays(alloc, &mut sig)?;
-    assert_eq!(rt; refused[0], Err(DeclareFault::LooseVariable { id: 1 }));
-    assert_eq!(rt; refused[1], Err(DeclareFault::LooseVariable { id: 3 }));
-    assert_eq!(rt; refused[2], Err(DeclareFault::LooseVariable { id: 1 }));
-    Ok(())
+    for (base, step, want) in [
+        (Simple::Call(8), Simple::Call(7), later(8)),
+        (Simple::Free(0), Simple::Call(7), later(7)),
+        (Simple::Free(9), Simple::Free(8), loose(9)),
+        (Simple::Free(1), Simple::Free(2), loose(1)),
+        (Simple::Free(0), Simple::Free(3), loose(3)),
+        (Simple::Free(0), Simple::Bound(0), loose(0)),
+        (Simple::Free(0), Simple::Free(2), Ok(2)),
+    ] {
+        assert_eq!(rt; one_more_simple(alloc, 2, base, step), want);
+    }
 }
 
-/// Declarations with two faults each.
-fn twice_wrong(alloc: Global, sig: &mut Signature) -> Result<[Result<u16, DeclareFault>; 4], Fail> {
-    let taken = constant(sig, alloc, ["1", "x"], call(alloc, 2)?);
-    let (base, step) = (leaf(alloc, Term::Free(9))?, call(alloc, 6)?);
-    let later = function(sig, alloc, TIMES, 5, base, step);
-    let (base, step) = (leaf(alloc, Term::Free(9))?, leaf(alloc, Term::Zero)?);
-    let wide = function(sig, alloc, TIMES, 5, base, step);
-    let body = equation(alloc, leaf(alloc, Term::Zero)?, leaf(alloc, Term::Free(9))?)?;
-    let wide_relation = relation(sig, alloc, "<", 5, body);
-    Ok([taken, later, wide, wide_relation])
+/// A predicate with a free variable too many, under a name and with so many arguments.
+fn stray_relation(alloc: Global, own: &str, arity: u16) -> Result<u16, DeclareFault> {
+    one_more_relation(alloc, own, arity, zero_is(alloc, Simple::Free(9))?)
+}
+
+/// A predicate whose body has the bound variable 1 under one binder.
+fn unbound_relation(alloc: Global) -> Result<u16, DeclareFault> {
+    let body = zero_is(alloc, Simple::Bound(1))?;
+    one_more_relation(alloc, "<", 0, all(alloc, "x", body)?)
 }
 
 #[test]
-fn of_two_faults_the_earlier_is_told(rt: HostRuntime) -> Result<(), Fail> {
+fn of_two_faults_the_earlier_is_told(rt: HostRuntime) {
     let alloc = rt.alloc();
-    let mut sig = game(alloc)?;
-    let refused = twice_wrong(alloc, &mut sig)?;
-    assert_eq!(rt; refused[0], Err(DeclareFault::NameTaken));
-    assert_eq!(rt; refused[1], Err(DeclareFault::UsesLater { id: 6 }));
-    assert_eq!(rt; refused[2], Err(DeclareFault::ArityOver { n: 5 }));
-    assert_eq!(rt; refused[3], Err(DeclareFault::ArityOver { n: 5 }));
-    Ok(())
+    let wide = Err(DeclareFault::ArityOver { n: 5 });
+    assert_eq!(rt; one_more_simple(alloc, 5, Simple::Free(9), Simple::Call(6)), later(6));
+    assert_eq!(rt; one_more_simple(alloc, 5, Simple::Free(9), Simple::Free(0)), wide);
+    assert_eq!(rt; stray_relation(alloc, "add_zero", 5), Err(DeclareFault::NameTaken));
+    assert_eq!(rt; stray_relation(alloc, "<", 5), wide);
+    assert_eq!(rt; stray_relation(alloc, "<", 4), loose(9));
+    assert_eq!(rt; unbound_relation(alloc), loose(1));
 }
+
+// ---- the axioms
 
 /// `∀ a, a + 0 = a`.
 fn add_zero(alloc: Global) -> Result<Boxed<Formula>, AllocError> {
-    let a = leaf(alloc, Term::Bound(0))?;
-    let left = sum(alloc, a, leaf(alloc, Term::Zero)?)?;
-    all(alloc, "a", equation(alloc, left, leaf(alloc, Term::Bound(0))?)?)
+    let left = plus(alloc, Term::Bound(0), Term::Zero)?;
+    let body = equation(alloc, left, leaf(alloc, Term::Bound(0))?)?;
+    all(alloc, "a", body)
 }
 
-/// `∀ a, ∀ d, a + succ d = succ (a + d)`.
-fn add_succ(alloc: Global) -> Result<Boxed<Formula>, AllocError> {
+/// `a + succ d = succ (a + d)` under two binders.
+fn add_succ_body(alloc: Global) -> Result<Boxed<Formula>, AllocError> {
     let next = succ(alloc, leaf(alloc, Term::Bound(0))?)?;
     let left = sum(alloc, leaf(alloc, Term::Bound(1))?, next)?;
-    let right = sum(alloc, leaf(alloc, Term::Bound(1))?, leaf(alloc, Term::Bound(0))?)?;
-    let body = equation(alloc, left, succ(alloc, right)?)?;
-    all(alloc, "a", all(alloc, "d", body)?)
+    equation(alloc, left, succ_of_sum(alloc)?)
 }
 
-/// `∀ a, ∀ b, succ a = succ b → a = b`.
-fn succ_inj(alloc: Global) -> Result<Boxed<Formula>, AllocError> {
-    let left = succ(alloc, leaf(alloc, Term::Bound(1))?)?;
-    let given = equation(alloc, left, succ(alloc, leaf(alloc, Term::Bound(0))?)?)?;
-    let then = equation(alloc, leaf(alloc, Term::Bound(1))?, leaf(alloc, Term::Bound(0))?)?;
-    let body = Boxed::new(alloc, Formula::Imp(given, then))?;
-    all(alloc, "a", all(alloc, "b", body)?)
+fn succ_of_sum(alloc: Global) -> Result<Boxed<Term>, AllocError> {
+    succ(alloc, plus(alloc, Term::Bound(1), Term::Bound(0))?)
+}
+
+/// A formula under two binders.
+fn all_all(
+    alloc: Global,
+    x: &str,
+    y: &str,
+    body: Boxed<Formula>,
+) -> Result<Boxed<Formula>, AllocError> {
+    let inner = all(alloc, y, body)?;
+    all(alloc, x, inner)
+}
+
+fn succ_of(alloc: Global, i: u32) -> Result<Boxed<Term>, AllocError> {
+    succ(alloc, leaf(alloc, Term::Bound(i))?)
+}
+
+/// `succ a = succ b → a = b` under two binders.
+fn succ_inj_body(alloc: Global) -> Result<Boxed<Formula>, AllocError> {
+    let left = succ_of(alloc, 1)?;
+    let given = equation(alloc, left, succ_of(alloc, 0)?)?;
+    implies(alloc, given, Formula::Eq(Term::Bound(1), Term::Bound(0)))
+}
+
+fn implies(
+    alloc: Global,
+    given: Boxed<Formula>,
+    then: Formula,
+) -> Result<Boxed<Formula>, AllocError> {
+    let then = Boxed::new(alloc, then)?;
+    Boxed::new(alloc, Formula::Imp(given, then))
 }
 
 /// `∀ a, 0 = succ a → False`.
 fn zero_ne_succ(alloc: Global) -> Result<Boxed<Formula>, AllocError> {
-    let right = succ(alloc, leaf(alloc, Term::Bound(0))?)?;
-    let given = equation(alloc, leaf(alloc, Term::Zero)?, right)?;
-    let falsum = Boxed::new(alloc, Formula::Falsum)?;
-    all(alloc, "a", Boxed::new(alloc, Formula::Imp(given, falsum))?)
+    let zero = leaf(alloc, Term::Zero)?;
+    let given = equation(alloc, zero, succ_of(alloc, 0)?)?;
+    all(alloc, "a", implies(alloc, given, Formula::Falsum)?)
 }
 
 /// `1 = succ 0`.
@@ -322,70 +371,116 @@ fn one_eq(alloc: Global) -> Result<Boxed<Formula>, AllocError> {
     equation(alloc, left, succ(alloc, leaf(alloc, Term::Zero)?)?)
 }
 
-/// Whether the axiom of this number has this name and is this formula, its binders' names included.
-fn is_axiom(
-    alloc: Global,
-    sig: &Signature,
-    id: u32,
-    name: &str,
-    want: &Formula,
-) -> Result<bool, Fail> {
+/// The axiom that the game has under a number: its name, the names of its binders and its formula.
+fn wanted(alloc: Global, id: u32) -> Result<Boxed<Formula>, AllocError> {
+    match id {
+        0 => all_all(alloc, "a", "b", succ_inj_body(alloc)?),
+        1 => zero_ne_succ(alloc),
+        2 => add_zero(alloc),
+        3 => all_all(alloc, "a", "d", add_succ_body(alloc)?),
+        _ => one_eq(alloc),
+    }
+}
+
+/// Whether the axiom of this number is the wanted one, its binders' names included.
+fn is_wanted(alloc: Global, sig: &Signature, id: u32) -> Result<bool, AllocError> {
     if id >= sig.axiom_count() {
         return Ok(false);
     }
+    let want = wanted(alloc, id)?;
     let a = Boxed::new(alloc, sig.axiom(alloc, id)?)?;
-    let names = binders(alloc, a.get())?;
-    Ok(sig.axiom_name(id).as_str() == name
-        && a.get().same(want)
-        && names.as_str() == binders(alloc, want)?.as_str())
+    Ok(a.get().same(want.get()) && have_same_binders(a.get(), want.get()))
 }
 
-#[test]
-fn the_axioms_stand_in_order_of_declaration(rt: HostRuntime) -> Result<(), Fail> {
-    let alloc = rt.alloc();
-    let sig = game(alloc)?;
-    assert_eq!(rt; sig.axiom_count(), 5);
-    let want = succ_inj(alloc)?;
-    assert!(rt; is_axiom(alloc, &sig, 0, "succ_inj", want.get())?);
-    let want = zero_ne_succ(alloc)?;
-    assert!(rt; is_axiom(alloc, &sig, 1, "zero_ne_succ", want.get())?);
-    let want = add_zero(alloc)?;
-    assert!(rt; is_axiom(alloc, &sig, 2, "add_zero", want.get())?);
-    let want = add_succ(alloc)?;
-    assert!(rt; is_axiom(alloc, &sig, 3, "add_succ", want.get())?);
-    let want = one_eq(alloc)?;
-    assert!(rt; is_axiom(alloc, &sig, 4, "one_eq", want.get())?);
-    Ok(())
-}
-
-#[test]
-fn a_number_and_a_name_lead_to_each_other(rt: HostRuntime) -> Result<(), Fail> {
-    let alloc = rt.alloc();
-    let sig = game(alloc)?;
-    assert_eq!(rt; sig.function_named("1"), Some(1));
-    assert_eq!(rt; sig.function_named("≤"), None);
-    assert_eq!(rt; sig.predicate_named("≤"), Some(0));
-    assert_eq!(rt; sig.predicate_named("add_zero"), None);
-    if sig.function_count() == 2 && sig.predicate_count() == 1 {
-        assert!(rt; sig.function_name(0).as_str() == "+");
-        assert_eq!(rt; (sig.function_arity(0), sig.function_arity(1)), (2, 0));
-        assert!(rt; sig.predicate_name(0).as_str() == "≤");
-        assert_eq!(rt; sig.predicate_arity(0), 2);
-        assert!(rt; sig.fits(2, sig.predicate_body(0)));
-        assert!(rt; !sig.fits(1, sig.predicate_body(0)));
+/// Whether the universal quantifiers that two formulas begin with have the same names.
+fn have_same_binders(a: &Formula, b: &Formula) -> bool {
+    match (a, b) {
+        (Formula::All(x, a), Formula::All(y, b)) => x.as_str() == y.as_str()
+            && have_same_binders(a.get(), b.get()),
+        _ => true,
     }
-    Ok(())
+}
+
+/// Whether the five axioms are the wanted ones, with their names.
+fn axioms_are_wanted(alloc: Global, sig: &Signature) -> Result<bool, AllocError> {
+    for id in 0..5 {
+        if !is_wanted(alloc, sig, id)? {
+            return Ok(false);
+        }
+    }
+    Ok(sig.axiom_count() == 5
+        && sig.axiom_name(0).as_str() == "succ_inj"
+        && sig.axiom_name(1).as_str() == "zero_ne_succ"
+        && sig.axiom_name(2).as_str() == "add_zero"
+        && sig.axiom_name(3).as_str() == "add_succ"
+        && sig.axiom_name(4).as_str() == "one_eq")
+}
+
+fn game_has_its_axioms(alloc: Global) -> Result<bool, DeclareFault> {
+    let sig = game(alloc)?;
+    Ok(axioms_are_wanted(alloc, &sig)?)
+}
+
+fn copy_has_its_axioms(alloc: Global) -> Result<bool, DeclareFault> {
+    let sig = game(alloc)?;
+    let copy = sig.copied(alloc)?;
+    Ok(axioms_are_wanted(alloc, &copy)? && has_its_order(&copy))
+}
+
+/// Whether the order is declared, with two arguments and a body over both.
+fn has_its_order(sig: &Signature) -> bool {
+    sig.predicate_named("≤") == Some(0)
+        && sig.predicate_named("add_zero") == None
+        && sig.predicate_count() == 1
+        && sig.predicate_name(0).as_str() == "≤"
+        && sig.predicate_arity(0) == 2
+        && sig.fits(2, sig.predicate_body(0))
+        && !sig.fits(1, sig.predicate_body(0))
+}
+
+/// Whether the functions are declared, with two arguments and with none.
+fn has_its_functions(sig: &Signature) -> bool {
+    sig.function_named("1") == Some(1)
+        && sig.function_named("≤") == None
+        && sig.function_count() == 2
+        && sig.function_name(0).as_str() == "+"
+        && sig.function_arity(0) == 2
+        && sig.function_arity(1) == 0
+}
+
+fn game_has_its_numbers(alloc: Global) -> Result<bool, DeclareFault> {
+    let sig = game(alloc)?;
+    Ok(has_its_functions(&sig) && has_its_order(&sig))
+}
+
+/// What fits: `0 = 1`, `0 = b0` as a body alone, `0 = v0` over one variable, no call of `+` without
+/// arguments.
+fn fits(alloc: Global, t: Simple) -> Result<[bool; 3], DeclareFault> {
+    let a = zero_is(alloc, t)?;
+    let sig = game(alloc)?;
+    Ok([sig.fits(0, a.get()), sig.fits_body(0, a.get()), sig.fits(1, a.get())])
 }
 
 #[test]
-fn a_copy_has_the_same_axioms(rt: HostRuntime) -> Result<(), Fail> {
+fn the_axioms_stand_in_order_of_declaration(rt: HostRuntime) {
+    assert_eq!(rt; game_has_its_axioms(rt.alloc()), Ok(true));
+}
+
+#[test]
+fn a_number_and_a_name_lead_to_each_other(rt: HostRuntime) {
+    assert_eq!(rt; game_has_its_numbers(rt.alloc()), Ok(true));
+}
+
+#[test]
+fn a_copy_has_the_same_axioms(rt: HostRuntime) {
+    assert_eq!(rt; copy_has_its_axioms(rt.alloc()), Ok(true));
+}
+
+#[test]
+fn numbers_and_arities_decide_what_fits(rt: HostRuntime) {
     let alloc = rt.alloc();
-    let sig = game(alloc)?.copied(alloc)?;
-    let want = add_succ(alloc)?;
-    assert!(rt; is_axiom(alloc, &sig, 3, "add_succ", want.get())?);
-    let term = call_one(alloc, 0, leaf(alloc, Term::Zero)?)?;
-    assert!(rt; !sig.fits_term(0, term.get()));
-    let body = equation(alloc, leaf(alloc, Term::Bound(0))?, call(alloc, 1)?)?;
-    assert!(rt; sig.fits_body(0, body.get()) && !sig.fits(0, body.get()));
-    Ok(())
+    assert_eq!(rt; fits(alloc, Simple::Call(1)), Ok([true, true, true]));
+    assert_eq!(rt; fits(alloc, Simple::Bound(0)), Ok([false, true, false]));
+    assert_eq!(rt; fits(alloc, Simple::Free(0)), Ok([false, false, true]));
+    assert_eq!(rt; fits(alloc, Simple::Call(0)), Ok([false, false, false]));
 }
