@@ -1,0 +1,7 @@
+use Rattle.pg_arith.proofs.Adding.{is_signature-function}
+use Rattle.pg_arith.proofs.signature.Signature.add_function.Goals as goal
+
+pub invariant_of-self-2 : goal.invariant_of-self-2
+invariant_of-self-2 c =
+    is_signature-function c.self.inside.functions c.push.new.self c.self.inside.predicates c.self.inside.succ_inj c.self.inside.zero_ne_succ c.args.f _
+    c.self.invariant c.self.view_is c.in_ok-push.ensures.ok c.requires.parameters c.requires.room c.requires.no_refusal

@@ -1,0 +1,15 @@
+//! Signatures: functions by primitive recursion, constants and predicates with their names, and the
+//! axioms that they bring.
+#![tactic(auto)]
+
+mod axioms;
+mod checks;
+mod declaring;
+mod fitting;
+mod lookups;
+mod signature;
+#[cfg(test)]
+mod tests;
+
+pub use declaring::DeclareFault;
+pub use signature::Signature;
