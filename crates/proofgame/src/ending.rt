@@ -66,7 +66,7 @@ fn push_numeral(out: &mut String, numeral: &Term) -> Result<(), AllocError>
 fn open_text(alloc: Global, target: &Target) -> Result<String, AllocError>
     ensures { IfOk result (λ text. string_bytes text ≡ open_text (formula target.now.formula)) }
 {
-    let Formula::Eq(left, right) = &target.formula else {
+    let Formula::Eq(left, right) = target.formula.get() else {
         unreachable!()
     };
     let mut text = String::from_str(alloc, "open 1\n⊢ ")?;

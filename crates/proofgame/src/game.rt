@@ -92,7 +92,7 @@ fn argument_at(
     ensures { IfOk result (λ found. seen found ≡ argument (inside_at budget) symbols.now) }
 {
     match split_first(symbols) {
-        Some((Symbol::Zero, rest)) => Ok(Some((Numeral::zero().successor(alloc)?, rest))),
+        Some((Symbol::Zero, rest)) => Ok(Some((Numeral::zero(alloc)?.successor(alloc)?, rest))),
         Some((Symbol::Open, rest)) => match inside_at(alloc, rest, budget)? {
             Some((numeral, rest)) => Ok(Some((numeral.successor(alloc)?, rest))),
             None => Ok(None),
@@ -111,7 +111,7 @@ fn numeral_at(
     ensures { IfOk result (λ found. seen found ≡ numeral_at budget symbols.now) }
 {
     match split_first(symbols) {
-        Some((Symbol::Zero, rest)) => Ok(Some((Numeral::zero(), rest))),
+        Some((Symbol::Zero, rest)) => Ok(Some((Numeral::zero(alloc)?, rest))),
         Some((Symbol::Succ, rest)) => argument_at(alloc, rest, budget),
         Some((Symbol::Open, rest)) => inside_at(alloc, rest, budget),
         _ => Ok(None),
@@ -177,7 +177,7 @@ fn right_at(alloc: Global, left: Numeral, symbols: &[Symbol]) -> Result<Option<G
     };
     match sample_of(rest) {
         Some(sample) => Ok(Some(Game {
-            target: Target::new(left, right),
+            target: Target::new(alloc, left, right)?,
             sample,
         })),
         None => Ok(None),
@@ -214,7 +214,7 @@ fn checked(game: Game) -> Option<Game>
 {
     match game.sample {
         Sample::Sorry => Some(game),
-        Sample::Rfl => match run_first(&game.target.formula, &FirstScript::Rfl) {
+        Sample::Rfl => match run_first(game.target.formula.get(), &FirstScript::Rfl) {
             First::Closed(_) => Some(game),
             First::Open | First::SidesDiffer => None,
         },

@@ -11,16 +11,18 @@ use std::alloc::{AllocError, Global};
 /// A term over `0` and `succ`.
 #[derive(Debug, Drop)]
 pub struct Numeral {
-    pub term: Term,
+    pub term: Boxed<Term>,
     ghost numeral: { IsTrue (is_numeral (view.term term)) },
 }
 
 impl Numeral {
     /// The numeral `0`.
-    pub fn zero() -> Numeral
-        ensures { view.term result.term ≡ tree.nought }
+    pub fn zero(alloc: Global) -> Result<Numeral, AllocError>
+        ensures { IfOk result (λ n. view.term n.term ≡ tree.nought) }
     {
-        Numeral { term: Term::Zero }
+        Ok(Numeral {
+            term: Boxed::new(alloc, Term::Zero)?,
+        })
     }
 
     /// The numeral after this one.
@@ -28,7 +30,7 @@ impl Numeral {
         ensures { IfOk result (λ n. view.term n.term ≡ tree.succ (view.term self.term)) }
     {
         Ok(Numeral {
-            term: Term::Succ(Boxed::new(alloc, self.term)?),
+            term: Boxed::new(alloc, Term::Succ(self.term))?,
         })
     }
 }
@@ -36,17 +38,18 @@ impl Numeral {
 /// The target of a one-level game: an equation of two numerals.
 #[derive(Debug, Drop)]
 pub struct Target {
-    pub formula: Formula,
+    pub formula: Boxed<Formula>,
     ghost numerals: { IsTrue (is_numeral_equation (view.formula formula)) },
 }
 
 impl Target {
     /// The equation of these two sides.
-    pub fn new(left: Numeral, right: Numeral) -> Target
-        ensures { view.formula result.formula ≡ tree.eq (view.term left.term) (view.term right.term) }
+    pub fn new(alloc: Global, left: Numeral, right: Numeral) -> Result<Target, AllocError>
+        ensures { IfOk result (λ target. view.formula target.formula ≡ tree.eq (view.term left.term) (view.term right.term)) }
     {
-        Target {
-            formula: Formula::Eq(left.term, right.term),
-        }
+        let equation = Formula::Eq(left.term.into_inner(), right.term.into_inner());
+        Ok(Target {
+            formula: Boxed::new(alloc, equation)?,
+        })
     }
 }

@@ -21,7 +21,7 @@ fn ending_of(game: Game, script: Option<FirstScript>) -> Ending<'static>
     let Some(script) = script else {
         return Ending::OtherScript;
     };
-    match run_first(&game.target.formula, &script) {
+    match run_first(game.target.formula.get(), &script) {
         First::Closed(_) => Ending::Won,
         First::Open => Ending::Open(game.target),
         First::SidesDiffer => Ending::SidesDiffer,
