@@ -14,7 +14,7 @@ is_signature-function fs gs ps a b f v s e made named room none =
     let is : functions gs ≡ functions fs ++ function f ∷ [] = ap functions made ∙ map_push function fs f in
     record {
       declared = subst (λ l. AreDeclared (record { functions = l; predicates = predicates ps })) (sym is)
-        (declared-with_function (declarations (fs, ps)) (function f) s.declared named (omega arith) free);
+          (declared-with_function (declarations (fs, ps)) (function f) s.declared named (omega arith) free);
       first_name = s.first_name;
       second_name = s.second_name;
     }
@@ -27,7 +27,7 @@ is_signature-predicate fs ps qs a b p v s e made room none =
     let is : predicates qs ≡ predicates ps ++ predicate p ∷ [] = ap predicates made ∙ map_push predicate ps p in
     record {
       declared = subst (λ l. AreDeclared (record { functions = functions fs; predicates = l })) (sym is)
-        (declared-with_predicate (declarations (fs, ps)) (predicate p) s.declared (omega arith) free);
+          (declared-with_predicate (declarations (fs, ps)) (predicate p) s.declared (omega arith) free);
       first_name = s.first_name;
       second_name = s.second_name;
     }

@@ -14,11 +14,7 @@ use sqlite_items::{Boxed, Items};
 use std::alloc::{AllocError, Global};
 
 /// The universal formula of this body.
-fn for_all(
-    alloc: Global,
-    name: Name,
-    body: Boxed<Formula>,
-) -> Result<Boxed<Formula>, AllocError>
+fn for_all(alloc: Global, name: Name, body: Boxed<Formula>) -> Result<Boxed<Formula>, AllocError>
     ensures { IfOk result (λ a. formula a ≡ tree.all name (formula body)) }
 {
     Boxed::new(alloc, Formula::All(name, body))
@@ -143,11 +139,7 @@ fn succ_axiom(alloc: Global, k: u16, r: &Recursion) -> Result<Boxed<Formula>, Al
 {
     let left = at_succ(alloc, k, r.arity)?;
     let right = step_over_binders(alloc, k, r)?;
-    quantified(
-        alloc,
-        r.params.as_slice(),
-        equation(alloc, left, right)?,
-    )
+    quantified(alloc, r.params.as_slice(), equation(alloc, left, right)?)
 }
 
 /// The equation of constant `k`.
@@ -216,12 +208,7 @@ fn equation_name(f: &Function, part: u32) -> &Name
 }
 
 /// An equation of function `k`, by its place among these.
-fn equation_of(
-    alloc: Global,
-    k: u16,
-    f: &Function,
-    part: u32,
-) -> Result<Boxed<Formula>, AllocError>
+fn equation_of(alloc: Global, k: u16, f: &Function, part: u32) -> Result<Boxed<Formula>, AllocError>
     requires part { part < length (logic.equations k (function f.now)) }
     requires parameters { HasParameters (function f.now) }
     ensures { IfOk result (λ a. option_map (λ x. x.says) (slice_get (logic.equations k (function f.now)) part) ≡ Some (formula a)) }

@@ -115,13 +115,7 @@ pub fn loose(vars: u32, depth: u64, t: &Term) -> Option<u32>
     ensures { (d : ℕ) → depth ≡ min d (2 ^ 64 - 1) → result ≡ logic.first (logic.loose vars d (term t.now)) }
 {
     match t {
-        Term::Free(i) => {
-            if *i < vars {
-                None
-            } else {
-                Some(*i)
-            }
-        }
+        Term::Free(i) => { if *i < vars { None } else { Some(*i) } }
         Term::Bound(i) => {
             if u64::from(*i) < depth {
                 None

@@ -104,10 +104,15 @@ impl Signature {
         ensures { result ≡ option_map fault (logic.function_refusal (declarations self.now) (function (Function.Recursive r.now))) }
     {
         let taken = self.three_clash(r.name.as_str(), r.zero_name.as_str(), r.succ_name.as_str());
-        let later = undeclared(self.functions(), r.base.get())
-            .or(undeclared(self.functions(), r.step.get()));
-        let astray = loose(u32::from(r.arity) - 1, 0, r.base.get())
-            .or(loose(u32::from(r.arity) + 1, 0, r.step.get()));
+        let later = undeclared(self.functions(), r.base.get()).or(undeclared(
+            self.functions(),
+            r.step.get(),
+        ));
+        let astray = loose(u32::from(r.arity) - 1, 0, r.base.get()).or(loose(
+            u32::from(r.arity) + 1,
+            0,
+            r.step.get(),
+        ));
         refusal_by(taken, later, r.arity, astray)
     }
 
@@ -126,7 +131,12 @@ impl Signature {
     {
         let taken = self.has_name(p.name.as_str());
         let later = undeclared_in(self.functions(), self.predicates(), p.body.get());
-        refusal_by(taken, later, p.arity, loose_in(u32::from(p.arity), 0, p.body.get()))
+        refusal_by(
+            taken,
+            later,
+            p.arity,
+            loose_in(u32::from(p.arity), 0, p.body.get()),
+        )
     }
 
     /// Puts one more function at the end, which nothing refuses.

@@ -6,6 +6,7 @@ mod axioms;
 mod checks;
 mod declaring;
 mod fitting;
+pub mod laws;
 mod lookups;
 mod signature;
 #[cfg(test)]

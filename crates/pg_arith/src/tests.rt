@@ -48,11 +48,7 @@ fn plus(alloc: Global, s: Term, t: Term) -> Result<Boxed<Term>, AllocError> {
     sum(alloc, s, Boxed::new(alloc, t)?)
 }
 
-fn equation(
-    alloc: Global,
-    s: Boxed<Term>,
-    t: Boxed<Term>,
-) -> Result<Boxed<Formula>, AllocError> {
+fn equation(alloc: Global, s: Boxed<Term>, t: Boxed<Term>) -> Result<Boxed<Formula>, AllocError> {
     Boxed::new(alloc, Formula::Eq(s.into_inner(), t.into_inner()))
 }
 
@@ -181,7 +177,14 @@ fn one_more_function(
     step: Boxed<Term>,
 ) -> Result<u16, DeclareFault> {
     let mut sig = game(alloc)?;
-    function(&mut sig, alloc, ["*", "mul_zero", "mul_succ"], arity, base, step)
+    function(
+        &mut sig,
+        alloc,
+        ["*", "mul_zero", "mul_succ"],
+        arity,
+        base,
+        step,
+    )
 }
 
 /// The same of two variables or calls without arguments.
@@ -191,8 +194,8 @@ fn one_more_simple(
     base: Simple,
     step: Simple,
 ) -> Result<u16, DeclareFault> {
-    let base = simple(alloc, base)?;
-    one_more_function(alloc, arity, base, simple(alloc, step)?)
+    let base = made(alloc, base)?;
+    one_more_function(alloc, arity, base, made(alloc, step)?)
 }
 
 #[derive(Clone, Copy, Debug)]
@@ -202,7 +205,7 @@ enum Simple {
     Call(u16),
 }
 
-fn simple(alloc: Global, t: Simple) -> Result<Boxed<Term>, AllocError> {
+fn made(alloc: Global, t: Simple) -> Result<Boxed<Term>, AllocError> {
     match t {
         Simple::Free(i) => leaf(alloc, Term::Free(i)),
         Simple::Bound(i) => leaf(alloc, Term::Bound(i)),
@@ -218,7 +221,7 @@ fn named(alloc: Global, own: &str, equation: &str) -> Result<u16, DeclareFault> 
 /// `0 = t`.
 fn zero_is(alloc: Global, t: Simple) -> Result<Boxed<Formula>, AllocError> {
     let zero = leaf(alloc, Term::Zero)?;
-    equation(alloc, zero, simple(alloc, t)?)
+    equation(alloc, zero, made(alloc, t)?)
 }
 
 // ---- the tests
@@ -235,7 +238,11 @@ fn a_name_is_taken_once(rt: HostRuntime) {
         ("x", "zero_ne_succ"),
         ("x", "x"),
     ] {
-        assert_eq!(rt; named(alloc, own, equation), Err(DeclareFault::NameTaken), "at {own}");
+        assert_eq!(rt;
+            named(alloc, own, equation),
+            Err(DeclareFault::NameTaken),
+            "at {own}"
+        );
     }
     assert_eq!(rt; named(alloc, "x", "y"), Ok(2));
 }
@@ -299,9 +306,18 @@ fn unbound_relation(alloc: Global) -> Result<u16, DeclareFault> {
 fn of_two_faults_the_earlier_is_told(rt: HostRuntime) {
     let alloc = rt.alloc();
     let wide = Err(DeclareFault::ArityOver { n: 5 });
-    assert_eq!(rt; one_more_simple(alloc, 5, Simple::Free(9), Simple::Call(6)), later(6));
-    assert_eq!(rt; one_more_simple(alloc, 5, Simple::Free(9), Simple::Free(0)), wide);
-    assert_eq!(rt; stray_relation(alloc, "add_zero", 5), Err(DeclareFault::NameTaken));
+    assert_eq!(rt;
+        one_more_simple(alloc, 5, Simple::Free(9), Simple::Call(6)),
+        later(6)
+    );
+    assert_eq!(rt;
+        one_more_simple(alloc, 5, Simple::Free(9), Simple::Free(0)),
+        wide
+    );
+    assert_eq!(rt;
+        stray_relation(alloc, "add_zero", 5),
+        Err(DeclareFault::NameTaken)
+    );
     assert_eq!(rt; stray_relation(alloc, "<", 5), wide);
     assert_eq!(rt; stray_relation(alloc, "<", 4), loose(9));
     assert_eq!(rt; unbound_relation(alloc), loose(1));
@@ -408,12 +424,14 @@ fn axioms_are_wanted(alloc: Global, sig: &Signature) -> Result<bool, AllocError>
             return Ok(false);
         }
     }
-    Ok(sig.axiom_count() == 5
-        && sig.axiom_name(0).as_str() == "succ_inj"
-        && sig.axiom_name(1).as_str() == "zero_ne_succ"
-        && sig.axiom_name(2).as_str() == "add_zero"
-        && sig.axiom_name(3).as_str() == "add_succ"
-        && sig.axiom_name(4).as_str() == "one_eq")
+    Ok(
+        sig.axiom_count() == 5
+            && sig.axiom_name(0).as_str() == "succ_inj"
+            && sig.axiom_name(1).as_str() == "zero_ne_succ"
+            && sig.axiom_name(2).as_str() == "add_zero"
+            && sig.axiom_name(3).as_str() == "add_succ"
+            && sig.axiom_name(4).as_str() == "one_eq",
+    )
 }
 
 fn game_has_its_axioms(alloc: Global) -> Result<bool, DeclareFault> {
@@ -458,7 +476,11 @@ fn game_has_its_numbers(alloc: Global) -> Result<bool, DeclareFault> {
 fn fits(alloc: Global, t: Simple) -> Result<[bool; 3], DeclareFault> {
     let a = zero_is(alloc, t)?;
     let sig = game(alloc)?;
-    Ok([sig.fits(0, a.get()), sig.fits_body(0, a.get()), sig.fits(1, a.get())])
+    Ok([
+        sig.fits(0, a.get()),
+        sig.fits_body(0, a.get()),
+        sig.fits(1, a.get()),
+    ])
 }
 
 #[test]

@@ -1,0 +1,25 @@
+-- Laws of truth, of every signature.
+use Rattle.std.specs.Prelude.{ℕ, ◌≡◌, ◌↔◌, true, List, [], ◌∷◌, Some, slice_get}
+use Rattle.pg_logic.specs.Tree.{Tm, Fm, opened_formula}
+use Rattle.pg_logic.specs.Axioms.{Axiom, axioms}
+use Rattle.pg_logic.specs.Declarations.{Declarations, AreDeclared, signature_of}
+use Rattle.pg_logic.specs.Signature.{Signature, fits, fits_term}
+use Rattle.pg_logic.specs.Value.{value, functions_of}
+use Rattle.pg_logic.specs.Truth.{IsTrueIn, IsTrueOf, predicates_of}
+
+-- truth with these numbers for the free and the bound variables, the innermost first
+abbrev pub TrueAt : Signature → List ℕ → List ℕ → Fm → Type 0
+TrueAt s fr bd a = IsTrueIn (functions_of s.functions) (predicates_of (functions_of s.functions) s.predicates) fr bd a
+
+-- a formula opened by a term is true where the body is, with the term's value
+abbrev pub OpeningLaw : Type 0
+OpeningLaw = (s : Signature) (n : ℕ) (fr : List ℕ) (t : Tm) (a : Fm) → fits_term s.functions n 0 t ≡ true → fits s n 1 a ≡ true →
+    TrueAt s fr [] (opened_formula t a) ↔ TrueAt s fr (value (functions_of s.functions) fr [] t ∷ []) a
+
+-- what is not false is true
+abbrev pub ClassicalLaw : Type 0
+ClassicalLaw = (s : Signature) (fr : List ℕ) (a : Fm) → ((IsTrueOf s fr a → ⊥) → ⊥) → IsTrueOf s fr a
+
+-- each axiom of what is declared is true
+abbrev pub AxiomLaw : Type 0
+AxiomLaw = (d : Declarations) → AreDeclared d → (id : ℕ) (x : Axiom) → slice_get (axioms d) id ≡ Some x → IsTrueOf (signature_of d) [] x.says
