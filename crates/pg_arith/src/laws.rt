@@ -6,17 +6,14 @@ ghost use Rattle.pg_arith.specs.Laws.{AxiomLaw, ClassicalLaw, OpeningLaw};
 /// variable.
 pub fn opening_law()
     ensures { OpeningLaw }
-{
-}
+{}
 
 /// What is not false is true.
 pub fn classical_law()
     ensures { ClassicalLaw }
-{
-}
+{}
 
 /// Each axiom is true.
 pub fn axiom_law()
     ensures { AxiomLaw }
-{
-}
+{}

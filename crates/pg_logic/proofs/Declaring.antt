@@ -155,8 +155,7 @@ fits_function d (by_recursion name n params base step zero_name succ_name) named
     n
     (first (loose (n - 1) 0 base ++ loose (n + 1) 0 step)) e in
     let later = first-none (undeclared fs base ++ undeclared fs step) p.none_later in
-    let astray = first-none (loose (n - 1) 0 base ++ loose (n + 1) 0 step) p.none_astray in
-    (
+    let astray = first-none (loose (n - 1) 0 base ++ loose (n + 1) 0 step) p.none_astray in (
       (
         named.0,
         fits_term-from fs (n - 1) 0 base (left_empty (undeclared fs base) (undeclared fs step) later) (left_empty (loose (n - 1) 0 base) (loose (n + 1) 0 step) astray),
@@ -188,9 +187,9 @@ names_with_function d f e h =
     let front = flat_map names_in d.functions in
     let after = map (λ p. p.name) d.predicates ++ codes "succ_inj" ∷ codes "zero_ne_succ" ∷ [] in
     let made : flat_map names_in (d.functions ++ f ∷ []) ++ after ≡ front ++ (names_in f ++ after) =
-      ap (λ l. l ++ after) (flat_map-append names_in d.functions (f ∷ []))
-      ∙ ap (λ l. (front ++ l) ++ after) (append-nil (names_in f))
-      ∙ append_assoc front (names_in f) after in
+    ap (λ l. l ++ after) (flat_map-append names_in d.functions (f ∷ []))
+    ∙ ap (λ l. (front ++ l) ++ after) (append-nil (names_in f))
+    ∙ append_assoc front (names_in f) after in
     subst (λ l. clash [] l ≡ false) (sym made) (differ-between front (names_in f) after e h)
 
 names_with_predicate : (d : Declarations) (p : NamedPredicate) → clash [] (names_of d) ≡ false → clash (names_of d) (p.name ∷ []) ≡ false → clash [] (names_of (with_predicate d p)) ≡ false
@@ -200,9 +199,9 @@ names_with_predicate d p e h =
     let after = codes "succ_inj" ∷ codes "zero_ne_succ" ∷ [] in
     let before : front ++ (middle ++ after) ≡ (front ++ middle) ++ after = sym (append_assoc front middle after) in
     let made : front ++ (map (λ p. p.name) (d.predicates ++ p ∷ []) ++ after) ≡ (front ++ middle) ++ (p.name ∷ after) =
-      ap (λ l. front ++ (l ++ after)) (map_push (λ p. p.name) d.predicates p)
-      ∙ ap (λ l. front ++ l) (append_assoc middle (p.name ∷ []) after)
-      ∙ sym (append_assoc front middle (p.name ∷ after)) in
+    ap (λ l. front ++ (l ++ after)) (map_push (λ p. p.name) d.predicates p)
+    ∙ ap (λ l. front ++ l) (append_assoc middle (p.name ∷ []) after)
+    ∙ sym (append_assoc front middle (p.name ∷ after)) in
     subst (λ l. clash [] l ≡ false) (sym made)
     (differ-between (front ++ middle) (p.name ∷ []) after (subst (λ l. clash [] l ≡ false) before e) (subst (λ l. clash l (p.name ∷ []) ≡ false) before h))
 
@@ -215,7 +214,7 @@ declared-with_function d f a named room e =
     let p = fits_function d f named e in
     record {
       declared = subst (λ fs. IsDeclared (record { functions = fs; predicates = (signature_of d).predicates })) (sym (map_push function_of d.functions f))
-        (declared-function (signature_of d) (function_of f) a.declared p.0);
+          (declared-function (signature_of d) (function_of f) a.declared p.0);
       names_differ = names_with_function d f a.names_differ (fresh_names d f e);
       parameters = each-push (λ _ f. HasParameters f × (arity_of f ≤ 4)) d.functions f a.parameters (named, p.1);
       predicate_arities = a.predicate_arities;
@@ -230,7 +229,7 @@ declared-with_predicate d p a room e =
     let body = fits-from s p.arity 0 p.body (first-none (undeclared_in s p.body) q.none_later) (first-none (loose_in p.arity 0 p.body) q.none_astray) in
     record {
       declared = subst (λ ps. IsDeclared (record { functions = s.functions; predicates = ps })) (sym (map_push predicate_of d.predicates p))
-        (declared-predicate s (predicate_of p) a.declared body);
+          (declared-predicate s (predicate_of p) a.declared body);
       names_differ = names_with_predicate d p a.names_differ q.free_names;
       parameters = a.parameters;
       predicate_arities = each-push (λ _ p. p.arity ≤ 4) d.predicates p a.predicate_arities q.few;
