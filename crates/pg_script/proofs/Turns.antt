@@ -1,9 +1,12 @@
 -- The rules of `rw` and the terms of `use` are read one after the other.
-use Rattle.std.proofs.Common.{◌≡◌, ◌∙◌, ℕ, zero, suc, ◌+◌, ◌-◌, ◌<◌, Bool, true, false, List, [], ◌∷◌, ◌++◌, map, refl, sym, ap, arith, append_assoc, Ok, Err, if◌then◌else◌}
+use Rattle.std.proofs.Common.{◌≡◌, ◌∙◌, ℕ, zero, suc, ◌+◌, ◌-◌, ◌<◌, Bool, true, false, List, [], ◌∷◌, ◌++◌, map, refl, sym, ap, arith, append_assoc, subst, Result, Ok, Err, if◌then◌else◌}
 use Rattle.std.proofs.lemmas.List.{map-append}
+use Rattle.std.specs.Result.{IsErr, IsErrAnd}
 use Rattle.pg_base.specs.declared.token.Wanted.TheVariants as wanted
 use Rattle.pg_base.specs.Tokens.{Word}
 use Rattle.pg_script.specs.declared.fault.ScriptFault.{ScriptFault}
+use Rattle.pg_script.specs.declared.fault.ScriptFault.TheVariants.{OutOfMemory}
+use Rattle.pg_script.specs.View.{Reads}
 use Rattle.pg_script.specs.declared.span.Until.TheVariants as until
 use Rattle.pg_script.specs.Data.{Part, Rule}
 use Rattle.pg_script.specs.Joined.{joined, appended}
@@ -13,6 +16,11 @@ use Rattle.pg_script.proofs.Arguments.{joined_first, appended_first}
 -- a list with one more at its end, seen as plain data
 pub one_more : {A B : Type 0} (f : A → B) (xs ys : List A) (x : A) → ys ≡ xs ++ x ∷ [] → map f ys ≡ map f xs ++ f x ∷ []
 one_more f xs ys x e = ap (map f) e ∙ map-append f xs (x ∷ [])
+
+-- an error that is handed on
+pub failed : {T V : Type 0} (view : T → V) (read : Read V) (e : ScriptFault) (result : Result T ScriptFault) → IsErr result × IsErrAnd result (λ x. x ≡ e) → ((e ≡ OutOfMemory → ⊥) → read ≡ Err e) → Reads view read result
+failed view read e (Ok x) is h = cc
+failed view read e (Err x) is h = let P : ScriptFault → Type 0 = λ z. (z ≡ OutOfMemory → ⊥) → read ≡ Err z in subst P (sym is.1) h
 
 pub left : (room turn : ℕ) → turn < room → room - turn ≡ suc (room - (turn + 1))
 left room turn lt = omega (arith, lt)

@@ -287,7 +287,6 @@ fn item_at<'t, 'a>(
 
 // The items of a block at this column.
 #[cycle(block)]
-#[tactic(auto, using(crate::proofs::Items::entries_wrong, crate::proofs::Items::entries_broken))]
 fn items_at<'t, 'a>(
     alloc: Global,
     whole: Whole,

@@ -186,7 +186,7 @@ fn rule_end<'t, 'a>(
 }
 
 // Rules up to the closing bracket, of which so many may stand, and the tokens that are left.
-#[tactic(auto, using(crate::proofs::Turns::rules_wrong, crate::proofs::Turns::rules_broken))]
+#[tactic(auto, using(crate::proofs::Turns::rules_broken))]
 fn rules_at<'t, 'a>(
     alloc: Global,
     room: usize,

@@ -1,8 +1,9 @@
 // Scripts.
-ghost use Rattle.std.specs.Prelude.{◌≡◌, ◌<◌, ◌^◌, length, IfOk};
+ghost use Rattle.std.specs.Prelude.{◌≡◌, ◌<◌, ◌≤◌, ◌^◌, length, IfOk, None};
 ghost use Rattle.pg_base.specs.Tokens.{word, lexed};
 ghost use Rattle.pg_base.specs.Spans.{AreTokens, AreInOrder, token_end};
 ghost use Rattle.pg_script.specs.Scripts.{last_end, long_fault, entries_of_tokens, items_of, lex_place, stands_before, broken_script, script_of, script};
+ghost use Rattle.pg_script.specs.Grammar.{ReadsScript, ReadsAll};
 ghost use Rattle.pg_script.specs.View.{words, Reads, Passes};
 
 use crate::block::{Whole, block_at};
@@ -84,6 +85,20 @@ fn are_short(tokens: &[Token<'_>], end: u32) -> Result<(), ScriptFault>
     Ok(())
 }
 
+// The script that these tokens are, if they aren't too long.
+fn items_in<'a>(
+    alloc: Global,
+    tokens: &[Token<'a>],
+    end: u32,
+    sample: bool,
+) -> Result<Script<'a>, ScriptFault>
+    requires { AreTokens end (words tokens.now) }
+    ensures { Reads script (items_of (words tokens.now) end sample) result }
+{
+    are_short(tokens, end)?;
+    script_at(alloc, tokens, Whole { end, sample })
+}
+
 /// The script that these tokens of a text are, the whole slice. `end` is the byte at which the text's
 /// next token behind them begins, or the text's length in bytes. Only a sample may hold hints and
 /// branches; elsewhere their words are unknown moves.
@@ -99,9 +114,12 @@ pub fn read_items<'a>(
 ) -> Result<Script<'a>, ScriptFault>
     requires tokens { AreTokens end (words tokens.now) }
     ensures exact { Reads script (items_of (words tokens.now) end sample) result }
+    // what is read is laid out by columns
+    ensures laid_out { ReadsScript sample end (words tokens.now) result }
+    // what is laid out by columns, and not too long, is read
+    ensures read { long_fault (words tokens.now) ≡ None → ReadsAll sample end (words tokens.now) result }
 {
-    are_short(tokens, end)?;
-    script_at(alloc, tokens, Whole { end, sample })
+    items_in(alloc, tokens, end, sample)
 }
 
 // The tokens of a text up to its fault, if it has one.
@@ -177,6 +195,21 @@ pub fn read_script<'a>(
     sample: bool,
 ) -> Result<Script<'a>, ScriptFault>
     ensures exact { Reads script (script_of source.now sample) result }
+    // what is read is laid out by columns
+    ensures laid_out { ReadsScript sample (length source.now) (lexed source.now).words result }
+    // what is laid out by columns, and not too long, is read
+    ensures read { length source.now ≤ 16384 → (lexed source.now).fault ≡ None → ReadsAll sample (length source.now) (lexed source.now).words result }
+{
+    script_in(alloc, source, sample)
+}
+
+// The script that a text is.
+fn script_in<'a>(
+    alloc: Global,
+    source: &'a str,
+    sample: bool,
+) -> Result<Script<'a>, ScriptFault>
+    ensures { Reads script (script_of source.now sample) result }
 {
     if source.len() > BYTES_LIMIT {
         return Err(ScriptFault::TooLong {
