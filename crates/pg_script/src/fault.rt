@@ -1,0 +1,38 @@
+// Faults of scripts.
+use pg_base::{LexFault, Wanted};
+use std::alloc::AllocError;
+use thiserror::Error;
+
+/// Why a text is no script: the fault of least place, but too long a text comes first.
+#[derive(Clone, Copy, Debug, PartialEq, Eq, Error)]
+pub enum ScriptFault {
+    /// The script has over 16,384 bytes. `at` is the place of the byte after the first 16,384.
+    #[error("the script is too long at {at}")]
+    TooLong { at: u32 },
+    /// A token or a comment has a fault.
+    #[error("{0}")]
+    Lex(LexFault),
+    /// No script begins with the tokens up to the one at `at`, or none ends there. `what` could stand there.
+    #[error("{what:?} is expected at {at}")]
+    Expected { at: u32, what: Wanted },
+    /// The script's 201st step is at `at`.
+    #[error("the step at {at} is one too many")]
+    TooMany { at: u32 },
+    /// A block within 16 others begins at `at`, or a parenthesis within 100 others opens there.
+    #[error("the block or the parenthesis at {at} is nested too deep")]
+    Deep { at: u32 },
+    /// There is no memory for the script.
+    #[error("out of memory")]
+    OutOfMemory,
+}
+
+impl From<AllocError> for ScriptFault {
+    ghost use Rattle.std.specs.Prelude.{◌≡◌};
+    ghost use Rattle.pg_script.specs.declared.fault.ScriptFault.TheVariants as fault;
+
+    ghost from_gives = { λ _ e. e ≡ fault.OutOfMemory };
+
+    fn from(_: AllocError) -> Self {
+        ScriptFault::OutOfMemory
+    }
+}

@@ -1,0 +1,19 @@
+//! How the text of a script falls into blocks, items and the parts of moves.
+#![tactic(auto)]
+
+mod block;
+mod expression;
+mod fault;
+mod form;
+mod head;
+mod hint;
+mod item;
+mod mark;
+mod script;
+mod span;
+#[cfg(test)]
+mod tests;
+
+pub use fault::ScriptFault;
+pub use item::{Expr, Form, HintItem, Item, MoveItem, Piece, RwRule, Script};
+pub use script::{read_items, read_script};
