@@ -29,7 +29,7 @@ goes : (column : ℕ) (ws : List Word) → GoesOn column (take (line_length colu
 goes column [] = tt
 goes column (w ∷ ws) =
     elim (is_semicolon w || ends_line column w) as (λ b. (is_semicolon w || ends_line column w) ≡ b → GoesOn column (take (if b then 0 else suc (line_length column ws)) (w ∷ ws))) [
-      true ↦ λ e. tt
+      | true ↦ λ e. tt
       | false ↦ λ e. (e, goes column ws)
     ] refl
 
@@ -37,7 +37,7 @@ ends : (column : ℕ) (ws : List Word) → EndsLine column (drop (line_length co
 ends column [] = tt
 ends column (w ∷ ws) =
     elim (is_semicolon w || ends_line column w) as (λ b. (is_semicolon w || ends_line column w) ≡ b → EndsLine column (drop (if b then 0 else suc (line_length column ws)) (w ∷ ws))) [
-      true ↦ λ e. e
+      | true ↦ λ e. e
       | false ↦ λ e. ends column ws
     ] refl
 
@@ -94,23 +94,27 @@ behind-laid : (sample : Bool) (end budget column room : ℕ) (inner : ℕ → Li
 behind-laid sample end budget column room inner w [] p all h = absurd (clash (Expected end wanted.Block) p h)
 behind-laid sample end budget column room inner w (v ∷ vs) p all h =
     elim (stands_deeper column w v) as (λ b. stands_deeper column w v ≡ b → (if b then inner room (v ∷ vs) else Err (Expected v.at wanted.Block)) ≡ Ok p → Behind sample end budget column room w (v ∷ vs) p) [
-      true ↦ λ e g. record { v = v; vs = vs; is = refl; deeper = e; inside = all room v vs p g }
+      | true ↦ λ e g. record { v = v; vs = vs; is = refl; deeper = e; inside = all room v vs p g }
       | false ↦ λ e g. absurd (clash (Expected v.at wanted.Block) p g)
     ] refl h
 
 bullet-laid : (sample : Bool) (end budget column room : ℕ) (w : Word) (ws : List Word) (p : List Entry × ℕ × List Word) → kind_of sample w ≡ kind.Focus → Behind sample end budget column room w ws p
     → LaidItem sample end budget column room (w ∷ ws) (focus (entries_of p.0), p.1, p.2)
 bullet-laid sample end budget column room w ws p k b =
-    let P : ℕ → Type 0 = λ n. IsItem sample end n column room p.1 (w ∷ b.v ∷ b.inside.more) p.2 (focus (entries_of p.0)) in
-    (w ∷ b.v ∷ b.inside.more, ap (λ t. w ∷ t) (b.is ∙ ap (λ t. b.v ∷ t) b.inside.whole),
-    subst P (sym b.inside.is) (a_bullet b.inside.fewer column room p.1 w b.v b.inside.more p.2 p.0 k b.deeper b.inside.inner))
+    let P : ℕ → Type 0 = λ n. IsItem sample end n column room p.1 (w ∷ b.v ∷ b.inside.more) p.2 (focus (entries_of p.0)) in (
+      w ∷ b.v ∷ b.inside.more,
+      ap (λ t. w ∷ t) (b.is ∙ ap (λ t. b.v ∷ t) b.inside.whole),
+      subst P (sym b.inside.is) (a_bullet b.inside.fewer column room p.1 w b.v b.inside.more p.2 p.0 k b.deeper b.inside.inner),
+    )
 
 branch-laid : (sample : Bool) (end budget column room : ℕ) (w : Word) (ws : List Word) (p : List Entry × ℕ × List Word) → kind_of sample w ≡ kind.Branch → Behind sample end budget column room w ws p
     → LaidItem sample end budget column room (w ∷ ws) (branch (entries_of p.0), p.1, p.2)
 branch-laid sample end budget column room w ws p k b =
-    let P : ℕ → Type 0 = λ n. IsItem sample end n column room p.1 (w ∷ b.v ∷ b.inside.more) p.2 (branch (entries_of p.0)) in
-    (w ∷ b.v ∷ b.inside.more, ap (λ t. w ∷ t) (b.is ∙ ap (λ t. b.v ∷ t) b.inside.whole),
-    subst P (sym b.inside.is) (a_branch b.inside.fewer column room p.1 w b.v b.inside.more p.2 p.0 k b.deeper b.inside.inner))
+    let P : ℕ → Type 0 = λ n. IsItem sample end n column room p.1 (w ∷ b.v ∷ b.inside.more) p.2 (branch (entries_of p.0)) in (
+      w ∷ b.v ∷ b.inside.more,
+      ap (λ t. w ∷ t) (b.is ∙ ap (λ t. b.v ∷ t) b.inside.whole),
+      subst P (sym b.inside.is) (a_branch b.inside.fewer column room p.1 w b.v b.inside.more p.2 p.0 k b.deeper b.inside.inner),
+    )
 
 kind-laid : (sample : Bool) (end budget column room : ℕ) (inner : ℕ → List Word → ReadEntries) (w : Word) (ws : List Word) (p : Entry × ℕ × List Word) (k : Kind) → Insides sample end budget inner
     → kind_of sample w ≡ k → by_kind inner column end room w ws k ≡ Ok p → LaidItem sample end budget column room (w ∷ ws) p
@@ -142,7 +146,7 @@ after-follows : (column end : ℕ) (s : Word) (ws : List Word) (o : Option (List
 after-follows column end s [] o g h = absurd (clash (Expected end wanted.Item) o h)
 after-follows column end s (v ∷ vs) o g h =
     elim (v.first && nat_lt v.column column) as (λ b. (v.first && nat_lt v.column column) ≡ b → (if b then Err (Expected v.at wanted.Item) else Ok (Some (v ∷ vs))) ≡ Ok o → Follows column (s ∷ v ∷ vs) o) [
-      true ↦ λ e k. absurd (clash (Expected v.at wanted.Item) o k)
+      | true ↦ λ e k. absurd (clash (Expected v.at wanted.Item) o k)
       | false ↦ λ e k. let P : Option (List Word) → Type 0 = Follows column (s ∷ v ∷ vs) in subst P (inj (Some (v ∷ vs)) o k) (by_semicolon s v vs g e)
     ] refl h
 
@@ -150,7 +154,7 @@ sign-follows : (column end : ℕ) (s : Word) (ws : List Word) (o : Option (List 
     → (if is_semicolon s then after_semicolon column end ws else Err (Expected s.at wanted.SignOrEnd)) ≡ Ok o → Follows column (s ∷ ws) o
 sign-follows column end s ws o a b h =
     elim (is_semicolon s) as (λ c. is_semicolon s ≡ c → (if c then after_semicolon column end ws else Err (Expected s.at wanted.SignOrEnd)) ≡ Ok o → Follows column (s ∷ ws) o) [
-      true ↦ λ e k. after-follows column end s ws o (a, b, e) k
+      | true ↦ λ e k. after-follows column end s ws o (a, b, e) k
       | false ↦ λ e k. absurd (clash (Expected s.at wanted.SignOrEnd) o k)
     ] refl h
 
@@ -158,8 +162,8 @@ line-follows : (column end : ℕ) (w : Word) (ws : List Word) (o : Option (List 
     → (if w.first && (w.column == column) then Ok (Some (w ∷ ws)) else (if is_semicolon w then after_semicolon column end ws else Err (Expected w.at wanted.SignOrEnd))) ≡ Ok o → Follows column (w ∷ ws) o
 line-follows column end w ws o a h =
     elim (w.first && (w.column == column)) as (λ c. (w.first && (w.column == column)) ≡ c
-      → (if c then Ok (Some (w ∷ ws)) else (if is_semicolon w then after_semicolon column end ws else Err (Expected w.at wanted.SignOrEnd))) ≡ Ok o → Follows column (w ∷ ws) o) [
-      true ↦ λ e k. let P : Option (List Word) → Type 0 = Follows column (w ∷ ws) in subst P (inj (Some (w ∷ ws)) o k) (by_line w ws (a, e))
+    → (if c then Ok (Some (w ∷ ws)) else (if is_semicolon w then after_semicolon column end ws else Err (Expected w.at wanted.SignOrEnd))) ≡ Ok o → Follows column (w ∷ ws) o) [
+      | true ↦ λ e k. let P : Option (List Word) → Type 0 = Follows column (w ∷ ws) in subst P (inj (Some (w ∷ ws)) o k) (by_line w ws (a, e))
       | false ↦ λ e k. sign-follows column end w ws o a e k
     ] refl h
 
@@ -167,8 +171,8 @@ follows : (column end : ℕ) (ws : List Word) (o : Option (List Word)) → next_
 follows column end [] o h = let P : Option (List Word) → Type 0 = Follows column [] in subst P (inj None o h) (ended_here [] tt)
 follows column end (w ∷ ws) o h =
     elim (w.first && nat_lt w.column column) as (λ c. (w.first && nat_lt w.column column) ≡ c
-      → (if c then Ok None else (if w.first && (w.column == column) then Ok (Some (w ∷ ws)) else (if is_semicolon w then after_semicolon column end ws else Err (Expected w.at wanted.SignOrEnd)))) ≡ Ok o → Follows column (w ∷ ws) o) [
-      true ↦ λ e k. let P : Option (List Word) → Type 0 = Follows column (w ∷ ws) in subst P (inj None o k) (ended_here (w ∷ ws) e)
+    → (if c then Ok None else (if w.first && (w.column == column) then Ok (Some (w ∷ ws)) else (if is_semicolon w then after_semicolon column end ws else Err (Expected w.at wanted.SignOrEnd)))) ≡ Ok o → Follows column (w ∷ ws) o) [
+      | true ↦ λ e k. let P : Option (List Word) → Type 0 = Follows column (w ∷ ws) in subst P (inj None o k) (ended_here (w ∷ ws) e)
       | false ↦ λ e k. line-follows column end w ws o e k
     ] refl h
 
@@ -206,14 +210,18 @@ joined-laid : (sample : Bool) (end budget column room between : ℕ) (ws front r
     → Follows column rest (Some ns) → LaidBlock sample end budget column between ns p → LaidBlock sample end budget column room ws (x ∷ p.0, p.1, p.2)
 joined-laid sample end budget column room between ws front rest ns x p whole i (by_line v vs n) b =
     let g = begun sample end budget column between v vs b.0 p b.1 b.2 in
-    let P : List Word → Type 0 = λ t. IsItem sample end budget column room between front (v ∷ t) x in
-    (front ++ v ∷ g.more, whole ∙ ap (λ t. front ++ v ∷ t) g.whole ∙ sym (append_assoc front (v ∷ g.more) p.2),
-    line budget column room between p.1 front g.more p.2 v x p.0 (subst P g.whole i) n g.inner)
+    let P : List Word → Type 0 = λ t. IsItem sample end budget column room between front (v ∷ t) x in (
+      front ++ v ∷ g.more,
+      whole ∙ ap (λ t. front ++ v ∷ t) g.whole ∙ sym (append_assoc front (v ∷ g.more) p.2),
+      line budget column room between p.1 front g.more p.2 v x p.0 (subst P g.whole i) n g.inner,
+    )
 joined-laid sample end budget column room between ws front rest ns x p whole i (by_semicolon s v vs n f) b =
     let g = begun sample end budget column between v vs b.0 p b.1 b.2 in
-    let P : List Word → Type 0 = λ t. IsItem sample end budget column room between front (s ∷ v ∷ t) x in
-    (front ++ s ∷ v ∷ g.more, whole ∙ ap (λ t. front ++ s ∷ v ∷ t) g.whole ∙ sym (append_assoc front (s ∷ v ∷ g.more) p.2),
-    semicolon budget column room between p.1 front g.more p.2 s v x p.0 (subst P g.whole i) n f g.inner)
+    let P : List Word → Type 0 = λ t. IsItem sample end budget column room between front (s ∷ v ∷ t) x in (
+      front ++ s ∷ v ∷ g.more,
+      whole ∙ ap (λ t. front ++ s ∷ v ∷ t) g.whole ∙ sym (append_assoc front (s ∷ v ∷ g.more) p.2),
+      semicolon budget column room between p.1 front g.more p.2 s v x p.0 (subst P g.whole i) n f g.inner,
+    )
 
 last-laid : (sample : Bool) (end budget column room left : ℕ) (ws front rest : List Word) (x : Entry) → ws ≡ front ++ rest → IsItem sample end budget column room left front rest x → Follows column rest None
     → LaidBlock sample end budget column room ws (x ∷ [], left, rest)

@@ -69,7 +69,7 @@ within inner column end room w v vs deeper = rw deeper refl
 
 abbrev pub by_kind : (ℕ → List Word → ReadEntries) → (column end room : ℕ) → Word → List Word → Kind → Read (Entry × ℕ × List Word)
 by_kind inner column end room w ws k = elim k [
-  kind.Move ↦ line_at false column end room w ws
+  | kind.Move ↦ line_at false column end room w ws
   | kind.Hint ↦ line_at true column end room w ws
   | kind.Focus ↦ and_then (inner_at inner column end room w ws) (λ b. Ok (focus (entries_of b.0), b.1, b.2))
   | kind.Branch ↦ and_then (inner_at inner column end room w ws) (λ b. Ok (branch (entries_of b.0), b.1, b.2))

@@ -55,7 +55,7 @@ broken-no : (fault : LexFault) (r : Read (List Entry)) (es : List Entry) → bro
 broken-no fault (Ok xs) es h = clash (Lex fault) es h
 broken-no fault (Err e) es h =
     elim (stands_before e (lex_place fault)) as (λ b. (if b then Err e else Err (Lex fault)) ≡ Ok es → ⊥) [
-      true ↦ λ g. clash e es g
+      | true ↦ λ g. clash e es g
       | false ↦ λ g. clash (Lex fault) es g
     ] h
 

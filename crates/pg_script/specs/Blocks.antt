@@ -76,7 +76,7 @@ abbrev pub entry_at : (ℕ → List Word → ReadEntries) → Bool → (column e
 entry_at inner sample column end room [] = Err (Expected end wanted.Item)
 entry_at inner sample column end room (w ∷ ws) =
     elim (kind_of sample w) [
-      kind.Move ↦ line_at false column end room w ws
+      | kind.Move ↦ line_at false column end room w ws
       | kind.Hint ↦ line_at true column end room w ws
       | kind.Focus ↦ and_then (inner_at inner column end room w ws) (λ b. Ok (focus (entries_of b.0), b.1, b.2))
       | kind.Branch ↦ and_then (inner_at inner column end room w ws) (λ b. Ok (branch (entries_of b.0), b.1, b.2))
@@ -119,7 +119,7 @@ entries_at inner sample column end (suc turns) room ws =
 abbrev pub too_deep : Bool → (end room : ℕ) → List Word → ScriptFault
 too_deep sample end room [] = Expected end wanted.Block
 too_deep sample end room (w ∷ ws) = elim (kind_of sample w) [
-  kind.NoItem ↦ Expected w.at wanted.Item
+  | kind.NoItem ↦ Expected w.at wanted.Item
   | kind.Move ↦ if room == 0 then TooMany w.at else Deep w.at
   | _ ↦ Deep w.at
 ]

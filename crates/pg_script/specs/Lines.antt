@@ -60,7 +60,7 @@ abbrev pub length_step : Until → (base depth at : ℕ) → Mark → (same deep
 length_step until base depth at m same deeper outer =
     if (depth == base) && stops until m then Ok 0
     else (elim m [
-      Open ↦ if nat_le 100 depth then Err (Deep at) else more 1 deeper
+      | Open ↦ if nat_le 100 depth then Err (Deep at) else more 1 deeper
       | Close ↦ if depth == base then Err (Expected at wanted.SignOrEnd) else more 1 outer
       | _ ↦ more 1 same
     ])
@@ -88,7 +88,7 @@ part_at what until end ws = and_then (length_until until end 0 0 ws) (λ n. some
 abbrev pub arg_length : (end depth : ℕ) → List Word → Read ℕ
 arg_length end depth [] = Ok 0
 arg_length end depth (w ∷ ws) = elim (mark w) [
-  Free ↦ Ok 1
+  | Free ↦ Ok 1
   | Number ↦ Ok 1
   | Open ↦ if nat_le 100 depth then Err (Deep w.at) else more 2 (length_until until.Close end (depth + 1) (depth + 1) ws)
   | _ ↦ Ok 0
@@ -122,7 +122,7 @@ closed end (Err e) = Err e
 abbrev pub expr_at : (end depth : ℕ) → List Word → Read (Expression × List Word)
 expr_at end depth [] = Err (Expected end wanted.Term)
 expr_at end depth (w ∷ ws) = elim (mark w) [
-  Free ↦ with_name w (args_from end depth 0 ws)
+  | Free ↦ with_name w (args_from end depth 0 ws)
   | Open ↦ if nat_le 100 depth then Err (Deep w.at) else closed end (expr_at end (depth + 1) ws)
   | _ ↦ Err (Expected w.at wanted.Term)
 ]
@@ -155,7 +155,7 @@ steps_fault (suc room) (w ∷ ws) = if is_name w then steps_fault room ws else S
 abbrev pub place_at : ℕ → List Word → Read (Option Word)
 place_at end [] = Ok None
 place_at end (w ∷ ws) = elim (mark w) [
-  At ↦ and_then (name_at end ws) (λ p. ended (Some p.0) p.1)
+  | At ↦ and_then (name_at end ws) (λ p. ended (Some p.0) p.1)
   | _ ↦ Err (Expected w.at wanted.SignOrEnd)
 ]
 
@@ -163,7 +163,7 @@ place_at end (w ∷ ws) = elim (mark w) [
 abbrev pub deep_fault : ℕ → List Word → Option ScriptFault
 deep_fault depth [] = None
 deep_fault depth (w ∷ ws) = elim (mark w) [
-  Open ↦ if nat_le 100 depth then Some (Deep w.at) else deep_fault (depth + 1) ws
+  | Open ↦ if nat_le 100 depth then Some (Deep w.at) else deep_fault (depth + 1) ws
   | Close ↦ deep_fault (depth - 1) ws
   | _ ↦ deep_fault depth ws
 ]
@@ -173,7 +173,7 @@ deep_fault depth (w ∷ ws) = elim (mark w) [
 abbrev pub rule_at : ℕ → List Word → Read (Rule × List Word)
 rule_at end [] = Err (Expected end wanted.Term)
 rule_at end (w ∷ ws) = elim (mark w) [
-  LeftArrow ↦ and_then (expr_at end 0 ws) (λ p. Ok (record { back = true; expr = p.0 }, p.1))
+  | LeftArrow ↦ and_then (expr_at end 0 ws) (λ p. Ok (record { back = true; expr = p.0 }, p.1))
   | _ ↦ and_then (expr_at end 0 (w ∷ ws)) (λ p. Ok (record { back = false; expr = p.0 }, p.1))
 ]
 
@@ -186,7 +186,7 @@ no_rule end (w ∷ ws) = elim (mark w) [ Free ↦ TooMany w.at | Open ↦ TooMan
 abbrev pub rule_end : ℕ → List Word → Read (Bool × List Word)
 rule_end end [] = Err (Expected end wanted.SignOrEnd)
 rule_end end (w ∷ ws) = elim (mark w) [
-  Comma ↦ Ok (true, ws)
+  | Comma ↦ Ok (true, ws)
   | CloseBracket ↦ Ok (false, ws)
   | _ ↦ Err (Expected w.at wanted.SignOrEnd)
 ]
@@ -284,7 +284,7 @@ is_given (Some value) = value
 abbrev pub text_at : ℕ → Flags → ℕ → List Word → Read Remark
 text_at at flags end [] = Err (Expected end wanted.Text)
 text_at at flags end (w ∷ ws) = elim (mark w) [
-  Text ↦ ended (record { at = at; text = w.text; hidden = is_given flags.hidden; strict = is_given flags.strict }) ws
+  | Text ↦ ended (record { at = at; text = w.text; hidden = is_given flags.hidden; strict = is_given flags.strict }) ws
   | _ ↦ Err (Expected w.at wanted.Text)
 ]
 
@@ -352,7 +352,7 @@ have_formula end name ws = and_then (part_at wanted.Formula until.Assign end ws)
 abbrev pub have_of : ℕ → Word → List Word → Read Shape
 have_of end name [] = Err (Expected end wanted.SignOrEnd)
 have_of end name (w ∷ ws) = elim (mark w) [
-  Colon ↦ have_formula end name ws
+  | Colon ↦ have_formula end name ws
   | Assign ↦ and_then (exact_at end ws) (λ e. Ok (have name None (Some e)))
   | _ ↦ Err (Expected w.at wanted.SignOrEnd)
 ]
@@ -360,7 +360,7 @@ have_of end name (w ∷ ws) = elim (mark w) [
 abbrev pub cases_of : ℕ → Word → List Word → Read Shape
 cases_of end name [] = Err (Expected end wanted.SignOrEnd)
 cases_of end name (w ∷ ws) = elim (mark w) [
-  Colon ↦ and_then (part_at wanted.Formula until.End end ws) (λ p. Ok (by_cases name p.0))
+  | Colon ↦ and_then (part_at wanted.Formula until.End end ws) (λ p. Ok (by_cases name p.0))
   | _ ↦ Err (Expected w.at wanted.SignOrEnd)
 ]
 

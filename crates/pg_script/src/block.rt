@@ -302,8 +302,7 @@ fn items_at<'t, 'a>(
     let mut room_left = room;
     // Each turn reads an item, which has a token at least.
     for _turn in 0..tokens.len() {
-        let (item, after, rest) =
-            item_at(alloc, whole, budget, column, room_left, left.tokens)?;
+        let (item, after, rest) = item_at(alloc, whole, budget, column, room_left, left.tokens)?;
         items.push(item)?;
         room_left = after;
         match next_at(column, whole.end, rest)? {

@@ -317,10 +317,7 @@ fn intro_at<'a>(
 }
 
 // `with` and names, or nothing.
-fn names_after<'a>(
-    alloc: Global,
-    tokens: &[Token<'a>],
-) -> Result<Items<Token<'a>>, ScriptFault>
+fn names_after<'a>(alloc: Global, tokens: &[Token<'a>]) -> Result<Items<Token<'a>>, ScriptFault>
     ensures { Reads words (names_after (words tokens.now)) result }
 {
     let Some((token, rest)) = split_first(tokens) else {

@@ -137,10 +137,7 @@ fn value_at<'t, 'a>(
     }
 }
 
-fn after_assign<'t, 'a>(
-    end: u32,
-    tokens: &'t [Token<'a>],
-) -> Result<&'t [Token<'a>], ScriptFault>
+fn after_assign<'t, 'a>(end: u32, tokens: &'t [Token<'a>]) -> Result<&'t [Token<'a>], ScriptFault>
     ensures { Reads rest_words (after_assign end (words tokens.now)) result }
 {
     let Some((token, rest)) = split_first(tokens) else {
@@ -246,11 +243,7 @@ fn text_at<'a>(
 }
 
 /// The hint whose word stands at this place, from the tokens behind the word.
-pub fn hint_at<'a>(
-    at: u32,
-    end: u32,
-    tokens: &[Token<'a>],
-) -> Result<HintItem<'a>, ScriptFault>
+pub fn hint_at<'a>(at: u32, end: u32, tokens: &[Token<'a>]) -> Result<HintItem<'a>, ScriptFault>
     ensures { Reads remark (hint_at at end (words tokens.now)) result }
 {
     let (flags, rest) = flags_at(end, tokens)?;

@@ -159,9 +159,8 @@ fn stands_before(fault: ScriptFault, place: u32) -> bool
     ensures { result ≡ stands_before fault place }
 {
     match fault {
-        ScriptFault::Expected { at, .. }
-        | ScriptFault::TooMany { at }
-        | ScriptFault::Deep { at } => at < place,
+        ScriptFault::Expected { at, .. } | ScriptFault::TooMany { at } | ScriptFault::Deep { at } =>
+            at < place,
         _ => false,
     }
 }
@@ -204,11 +203,7 @@ pub fn read_script<'a>(
 }
 
 // The script that a text is.
-fn script_in<'a>(
-    alloc: Global,
-    source: &'a str,
-    sample: bool,
-) -> Result<Script<'a>, ScriptFault>
+fn script_in<'a>(alloc: Global, source: &'a str, sample: bool) -> Result<Script<'a>, ScriptFault>
     ensures { Reads script (script_of source.now sample) result }
 {
     if source.len() > BYTES_LIMIT {

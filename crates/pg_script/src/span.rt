@@ -32,9 +32,7 @@ fn stops(until: Until, mark: Mark) -> bool
 {
     matches!(
         (until, mark),
-        (Until::Close, Mark::Close)
-            | (Until::Comma, Mark::Comma)
-            | (Until::Assign, Mark::Assign)
+        (Until::Close, Mark::Close) | (Until::Comma, Mark::Comma) | (Until::Assign, Mark::Assign)
     )
 }
 

@@ -102,6 +102,7 @@ fn show_form(text: &mut String, form: &Form<'_>) -> Result<(), Fail> {
     Ok(())
 }
 
+#[cycle(show)]
 fn show_item(text: &mut String, item: &Item<'_>) -> Result<(), Fail> {
     match item {
         Item::Move(step) => {
@@ -130,6 +131,7 @@ fn show_item(text: &mut String, item: &Item<'_>) -> Result<(), Fail> {
     Ok(())
 }
 
+#[cycle(show)]
 fn show_items(text: &mut String, items: &[Item<'_>]) -> Result<(), Fail> {
     for item in items {
         show_item(text, item)?;
@@ -167,7 +169,10 @@ fn reads_each_form_of_a_move(rt: HostRuntime) -> Result<(), Fail> {
         ("", ""),
         (" -- nothing\n", ""),
         ("rfl", "rfl ;"),
-        ("left; right;constructor\nexfalso", "left ;right ;constructor ;exfalso ;"),
+        (
+            "left; right;constructor\nexfalso",
+            "left ;right ;constructor ;exfalso ;",
+        ),
         ("exact h", "exact h;"),
         ("exact h a 0 (b + c)", "exact h<a ><0 ><( b + c ) >;"),
         ("exact ((h a))", "exact h<a >;"),
@@ -208,12 +213,19 @@ fn items_fall_into_blocks_by_columns(rt: HostRuntime) -> Result<(), Fail> {
         ("·\n  rfl; left\n  right", "·{rfl ;left ;right ;};"),
         ("· rfl\n ; left", "·{rfl ;};left ;"),
         ("· rfl; left\n   ; right", "·{rfl ;left ;right ;};"),
-        ("rfl; · left\n       right\nrfl", "rfl ;·{left ;right ;};rfl ;"),
+        (
+            "rfl; · left\n       right\nrfl",
+            "rfl ;·{left ;right ;};rfl ;",
+        ),
         ("rfl;\nleft", "rfl ;left ;"),
         ("exact MyNat.h\nrfl", "exact h;rfl ;"),
     ] {
         let text = shown(rt, source, false)?;
-        let want = if want.ends_with("fault") { "fault" } else { want };
+        let want = if want.ends_with("fault") {
+            "fault"
+        } else {
+            want
+        };
         assert!(rt; text.as_str() == want, "{source}: {text}");
     }
     Ok(())
@@ -221,7 +233,8 @@ fn items_fall_into_blocks_by_columns(rt: HostRuntime) -> Result<(), Fail> {
 
 #[test]
 fn only_a_sample_has_hints_and_branches(rt: HostRuntime) -> Result<(), Fail> {
-    let source = "Hint \"a\"\nBranch\n  rfl\n  Hint (strict := true) (hidden := false) \"b\"\nHint (hidden := true) \"c\"";
+    let source =
+        "Hint \"a\"\nBranch\n  rfl\n  Hint (strict := true) (hidden := false) \"b\"\nHint (hidden := true) \"c\"";
     let sample = shown(rt, source, true)?;
     assert!(rt;
         sample.as_str() == "Hint a;Branch{rfl ;Hint b strict;};Hint c hidden;",
@@ -232,13 +245,20 @@ fn only_a_sample_has_hints_and_branches(rt: HostRuntime) -> Result<(), Fail> {
     for (source, at, what) in [
         ("Hint", 4, Wanted::Text),
         ("Hint \"a\" b", 9, Wanted::SignOrEnd),
-        ("Hint (hidden := true) (hidden := true) \"a\"", 23, Wanted::Name),
+        (
+            "Hint (hidden := true) (hidden := true) \"a\"",
+            23,
+            Wanted::Name,
+        ),
         ("Hint (hidden := yes) \"a\"", 16, Wanted::Name),
         ("Hint (loud := true) \"a\"", 6, Wanted::Name),
         ("Branch\nrfl", 7, Wanted::Block),
     ] {
         let fault = fault_of(rt, source, true);
-        assert!(rt; fault == Some(ScriptFault::Expected { at, what }), "{source}");
+        assert!(rt;
+            fault == Some(ScriptFault::Expected { at, what }),
+            "{source}"
+        );
     }
     Ok(())
 }
@@ -283,7 +303,10 @@ fn expects_at_the_first_token_that_no_script_goes_on_with(rt: HostRuntime) -> Re
         ("· rfl\n left", 8, Wanted::SignOrEnd),
     ] {
         let fault = fault_of(rt, source, false);
-        assert!(rt; fault == Some(ScriptFault::Expected { at, what }), "{source}");
+        assert!(rt;
+            fault == Some(ScriptFault::Expected { at, what }),
+            "{source}"
+        );
     }
     Ok(())
 }
@@ -352,7 +375,12 @@ fn at_most_16_blocks_and_100_parentheses_nest(rt: HostRuntime) -> Result<(), Fai
     assert!(rt; fault_of(rt, deep.as_str(), false) == Some(ScriptFault::Deep { at: 48 }));
     let open = repeated(rt, "(", 100)?;
     let close = repeated(rt, ")", 100)?;
-    for (before, after) in [("exact ", "h"), ("exact h ", "x"), ("use ", ""), ("foo ", "1")] {
+    for (before, after) in [
+        ("exact ", "h"),
+        ("exact h ", "x"),
+        ("use ", ""),
+        ("foo ", "1"),
+    ] {
         let fits = format!(in alloc; "{before}{open}{after}{close}")?;
         assert!(rt; fault_of(rt, fits.as_str(), false) == None, "{before}");
         let deep = format!(in alloc; "{before}{open}({after}){close}")?;
@@ -397,7 +425,11 @@ fn at_most_16384_bytes_stand(rt: HostRuntime) -> Result<(), Fail> {
     assert_eq!(rt; text.len(), 16_386);
     assert!(rt; items_fault(rt, text.as_str()) == Some(ScriptFault::TooLong { at: 16_385 }));
     assert!(rt;
-        items_fault(rt, "rfl x") == Some(ScriptFault::Expected { at: 4, what: Wanted::SignOrEnd })
+        items_fault(rt, "rfl x")
+            == Some(ScriptFault::Expected {
+                at: 4,
+                what: Wanted::SignOrEnd
+            })
     );
     Ok(())
 }

@@ -7,7 +7,7 @@ use Rattle.pg_script.proofs.block.+block.Given as goal
 abbrev pub invariant-items_at-loop-turn : goal.invariant-items_at-loop-turn
 invariant-items_at-loop-turn l =
     joined_entries (map entry l.items) (entries_at (block_at l.budget l.whole.sample l.whole.end) l.whole.sample l.column l.whole.end (length l.tokens - l._turn) l.room_left (words l.left.tokens.now))
-      ≡ entries_at (block_at l.budget l.whole.sample l.whole.end) l.whole.sample l.column l.whole.end (length l.tokens) l.room (words l.tokens)
+    ≡ entries_at (block_at l.budget l.whole.sample l.whole.end) l.whole.sample l.column l.whole.end (length l.tokens) l.room (words l.tokens)
 
 abbrev pub decreases-inner_at : goal.decreases-inner_at
 decreases-inner_at l = 4 * l.budget + 1
