@@ -1,151 +1,49 @@
 use crate::fault::ScriptFault;
-use crate::item::{Expr, Form, Item, Piece, RwRule};
+use crate::item::{Form, Item};
 use crate::script::{read_items, read_script};
-use pg_base::{LexFault, Token, Wanted, tokens_of};
+use pg_base::{LexFault, Wanted, tokens_of};
 use std::test::Fail;
 
-// ---- a script as a text: each item ends with `;`
+// What an item is to be: the word of a move, a block, or the text of a hint with its options.
+#[derive(Clone, Copy)]
+enum Want<'a> {
+    Move(&'a str),
+    Focus(&'a [Want<'a>]),
+    Branch(&'a [Want<'a>]),
+    Hint(&'a str, bool, bool),
+}
 
-fn show_tokens(text: &mut String, tokens: &[Token<'_>]) -> Result<(), Fail> {
-    for token in tokens {
-        text.push_str(token.text)?;
-        text.push(' ')?;
+#[cycle(fits)]
+fn fits(item: &Item<'_>, want: &Want<'_>) -> bool {
+    match (item, want) {
+        (Item::Move(step), Want::Move(head)) => step.head == *head,
+        (Item::Focus(items), Want::Focus(wants)) => all_fit(items.as_slice(), wants),
+        (Item::Branch(items), Want::Branch(wants)) => all_fit(items.as_slice(), wants),
+        (Item::Hint(hint), Want::Hint(text, hidden, strict)) => {
+            hint.text == *text && hint.hidden == *hidden && hint.strict == *strict
+        }
+        _ => false,
     }
-    Ok(())
 }
 
-fn show_piece(text: &mut String, piece: &Piece<'_>) -> Result<(), Fail> {
-    text.push('<')?;
-    show_tokens(text, piece.tokens.as_slice())?;
-    text.push('>')?;
-    Ok(())
-}
-
-fn show_pieces(text: &mut String, pieces: &[Piece<'_>]) -> Result<(), Fail> {
-    for piece in pieces {
-        show_piece(text, piece)?;
+#[cycle(fits)]
+fn all_fit(items: &[Item<'_>], wants: &[Want<'_>]) -> bool {
+    if items.len() != wants.len() {
+        return false;
     }
-    Ok(())
-}
-
-fn show_expr(text: &mut String, expr: &Expr<'_>) -> Result<(), Fail> {
-    text.push_str(expr.name.text)?;
-    show_pieces(text, expr.args.as_slice())
-}
-
-fn show_rules(text: &mut String, rules: &[RwRule<'_>]) -> Result<(), Fail> {
-    for rule in rules {
-        text.push_str(if rule.back { " ← " } else { " " })?;
-        show_expr(text, &rule.expr)?;
-    }
-    Ok(())
-}
-
-fn show_place(text: &mut String, place: &Option<Token<'_>>) -> Result<(), Fail> {
-    if let Some(token) = place {
-        text.push_str(" at ")?;
-        text.push_str(token.text)?;
-    }
-    Ok(())
-}
-
-fn show_have(
-    text: &mut String,
-    formula: &Option<Piece<'_>>,
-    expr: &Option<Expr<'_>>,
-) -> Result<(), Fail> {
-    if let Some(formula) = formula {
-        show_piece(text, formula)?;
-    }
-    if let Some(expr) = expr {
-        text.push('=')?;
-        show_expr(text, expr)?;
-    }
-    Ok(())
-}
-
-fn show_form(text: &mut String, form: &Form<'_>) -> Result<(), Fail> {
-    match form {
-        Form::Plain => {}
-        Form::Exact(expr) => show_expr(text, expr)?,
-        Form::Intro(names) => show_tokens(text, names.as_slice())?,
-        Form::Apply { expr, place } => {
-            show_expr(text, expr)?;
-            show_place(text, place)?;
-        }
-        Form::Rw { rules, place } => {
-            show_rules(text, rules.as_slice())?;
-            show_place(text, place)?;
-        }
-        Form::Split { name, names } => {
-            text.push_str(name.text)?;
-            text.push(':')?;
-            show_tokens(text, names.as_slice())?;
-        }
-        Form::Use(terms) => show_pieces(text, terms.as_slice())?,
-        Form::Symm(place) => show_place(text, place)?,
-        Form::Have {
-            name,
-            formula,
-            expr,
-        } => {
-            text.push_str(name.text)?;
-            show_have(text, formula, expr)?;
-        }
-        Form::Revert(name) => text.push_str(name.text)?,
-        Form::ByCases { name, formula } => {
-            text.push_str(name.text)?;
-            show_piece(text, formula)?;
-        }
-        Form::Unknown => text.push('?')?,
-    }
-    Ok(())
-}
-
-#[cycle(show)]
-fn show_item(text: &mut String, item: &Item<'_>) -> Result<(), Fail> {
-    match item {
-        Item::Move(step) => {
-            text.push_str(step.head)?;
-            text.push(' ')?;
-            show_form(text, &step.form)?;
-        }
-        Item::Focus(items) => {
-            text.push_str("·{")?;
-            show_items(text, items.as_slice())?;
-            text.push('}')?;
-        }
-        Item::Branch(items) => {
-            text.push_str("Branch{")?;
-            show_items(text, items.as_slice())?;
-            text.push('}')?;
-        }
-        Item::Hint(hint) => {
-            text.push_str("Hint ")?;
-            text.push_str(hint.text)?;
-            text.push_str(if hint.hidden { " hidden" } else { "" })?;
-            text.push_str(if hint.strict { " strict" } else { "" })?;
+    for (item, want) in items.iter().zip(wants) {
+        if !fits(item, want) {
+            return false;
         }
     }
-    text.push(';')?;
-    Ok(())
+    true
 }
 
-#[cycle(show)]
-fn show_items(text: &mut String, items: &[Item<'_>]) -> Result<(), Fail> {
-    for item in items {
-        show_item(text, item)?;
-    }
-    Ok(())
-}
-
-fn shown(rt: HostRuntime, source: &str, sample: bool) -> Result<String, Fail> {
-    let mut text = String::new(rt.alloc());
+fn reads(rt: HostRuntime, source: &str, sample: bool, wants: &[Want<'_>]) -> bool {
     match read_script(rt.alloc(), source, sample) {
-        Ok(script) => show_items(&mut text, script.items.as_slice())?,
-        Err(_) => text.push_str("fault")?,
+        Ok(script) => all_fit(script.items.as_slice(), wants),
+        Err(_) => false,
     }
-    Ok(text)
 }
 
 fn repeated(rt: HostRuntime, piece: &str, count: usize) -> Result<String, Fail> {
@@ -164,70 +62,67 @@ fn fault_of(rt: HostRuntime, source: &str, sample: bool) -> Option<ScriptFault> 
 }
 
 #[test]
-fn reads_each_form_of_a_move(rt: HostRuntime) -> Result<(), Fail> {
-    for (source, want) in [
-        ("", ""),
-        (" -- nothing\n", ""),
-        ("rfl", "rfl ;"),
-        (
-            "left; right;constructor\nexfalso",
-            "left ;right ;constructor ;exfalso ;",
-        ),
-        ("exact h", "exact h;"),
-        ("exact h a 0 (b + c)", "exact h<a ><0 ><( b + c ) >;"),
-        ("exact ((h a))", "exact h<a >;"),
-        ("exact h () ((x))", "exact h<( ) ><( ( x ) ) >;"),
-        ("intro x by", "intro x by ;"),
-        ("apply h a at g", "apply h<a > at g;"),
-        ("rw [h]", "rw  h;"),
-        ("rw [← h, (g a), <- f] at at", "rw  ← h g<a > ← f at at;"),
-        ("induction n", "induction n:;"),
-        ("cases h with", "cases h:;"),
-        ("induction n with d hd", "induction n:d hd ;"),
-        ("use := 0, f (a, b)", "use <:= 0 ><f ( a , b ) >;"),
-        ("symm; symm at h", "symm ;symm  at h;"),
-        ("have h : a = b", "have h<a = b >;"),
-        ("have h := g a", "have h=g<a >;"),
-        ("have h : (x := y) := g", "have h<( x := y ) >=g;"),
-        ("revert by", "revert by;"),
-        ("by_cases h : x := y", "by_cases h<x := y >;"),
-        ("foo ] · 12 \"a\" ) (\n  bar", "foo ?;"),
-    ] {
-        let text = shown(rt, source, false)?;
-        assert!(rt; text.as_str() == want, "{source}: {text}");
-    }
-    Ok(())
-}
-
-#[test]
 fn items_fall_into_blocks_by_columns(rt: HostRuntime) -> Result<(), Fail> {
-    for (source, want) in [
-        (
+    let rfl = Want::Move("rfl");
+    let left = Want::Move("left");
+    let rw = Want::Move("rw");
+    assert!(rt; reads(rt, "", false, &[]));
+    assert!(rt; reads(rt, " -- nothing\n", false, &[]));
+    assert!(rt; reads(rt, "rfl; left;rfl\nleft", false, &[rfl, left, rfl, left]));
+    assert!(rt; reads(rt, "  rfl -- a\n  /- b -/ left", false, &[rfl]) == false);
+    assert!(rt; reads(rt, "  rfl -- a\n  left", false, &[rfl, left]));
+    let induction = Want::Move("induction");
+    assert!(rt;
+        reads(
+            rt,
             "induction n with d hd\n· rw [add_zero]\n  rfl\n· rw [add_succ, hd]\n  rfl\n",
-            "induction n:d hd ;·{rw  add_zero;rfl ;};·{rw  add_succ hd;rfl ;};",
-        ),
-        ("  rfl -- a\n  /- b -/ left", "rfl ;fault"),
-        ("  rfl -- a\n  left", "rfl ;left ;"),
-        ("exact h\n  a\n rfl", "exact h<a ><rfl >;"),
-        ("· · rfl\n  left\nright", "·{·{rfl ;};left ;};right ;"),
-        ("·\n  rfl; left\n  right", "·{rfl ;left ;right ;};"),
-        ("· rfl\n ; left", "·{rfl ;};left ;"),
-        ("· rfl; left\n   ; right", "·{rfl ;left ;right ;};"),
-        (
-            "rfl; · left\n       right\nrfl",
-            "rfl ;·{left ;right ;};rfl ;",
-        ),
-        ("rfl;\nleft", "rfl ;left ;"),
-        ("exact MyNat.h\nrfl", "exact h;rfl ;"),
-    ] {
-        let text = shown(rt, source, false)?;
-        let want = if want.ends_with("fault") {
-            "fault"
-        } else {
-            want
-        };
-        assert!(rt; text.as_str() == want, "{source}: {text}");
-    }
+            false,
+            &[induction, Want::Focus(&[rw, rfl]), Want::Focus(&[rw, rfl])]
+        )
+    );
+    let inner = [Want::Focus(&[rfl]), left];
+    assert!(rt;
+        reads(
+            rt,
+            "· · rfl\n  left\nrfl",
+            false,
+            &[Want::Focus(&inner), rfl]
+        )
+    );
+    assert!(rt;
+        reads(
+            rt,
+            "·\n  rfl; left\n  rfl",
+            false,
+            &[Want::Focus(&[rfl, left, rfl])]
+        )
+    );
+    assert!(rt; reads(rt, "· rfl\n ; left", false, &[Want::Focus(&[rfl]), left]));
+    assert!(rt;
+        reads(
+            rt,
+            "· rfl; left\n   ; rfl",
+            false,
+            &[Want::Focus(&[rfl, left, rfl])]
+        )
+    );
+    assert!(rt;
+        reads(
+            rt,
+            "rfl; · left\n       rfl\nrfl",
+            false,
+            &[rfl, Want::Focus(&[left, rfl]), rfl]
+        )
+    );
+    assert!(rt; reads(rt, "rfl;\nleft", false, &[rfl, left]));
+    assert!(rt;
+        reads(
+            rt,
+            "foo ] · 12 \"a\" ) (\n  bar",
+            false,
+            &[Want::Move("foo")]
+        )
+    );
     Ok(())
 }
 
@@ -235,13 +130,32 @@ fn items_fall_into_blocks_by_columns(rt: HostRuntime) -> Result<(), Fail> {
 fn only_a_sample_has_hints_and_branches(rt: HostRuntime) -> Result<(), Fail> {
     let source =
         "Hint \"a\"\nBranch\n  rfl\n  Hint (strict := true) (hidden := false) \"b\"\nHint (hidden := true) \"c\"";
-    let sample = shown(rt, source, true)?;
+    let branch = [Want::Move("rfl"), Want::Hint("b", false, true)];
     assert!(rt;
-        sample.as_str() == "Hint a;Branch{rfl ;Hint b strict;};Hint c hidden;",
-        "{sample}"
+        reads(
+            rt,
+            source,
+            true,
+            &[
+                Want::Hint("a", false, false),
+                Want::Branch(&branch),
+                Want::Hint("c", true, false)
+            ]
+        )
     );
-    let script = shown(rt, source, false)?;
-    assert!(rt; script.as_str() == "Hint ?;Branch ?;Hint ?;", "{script}");
+    assert!(rt;
+        reads(
+            rt,
+            source,
+            false,
+            &[Want::Move("Hint"), Want::Move("Branch"), Want::Move("Hint")]
+        )
+    );
+    Ok(())
+}
+
+#[test]
+fn a_hint_has_each_option_at_most_once(rt: HostRuntime) -> Result<(), Fail> {
     for (source, at, what) in [
         ("Hint", 4, Wanted::Text),
         ("Hint \"a\" b", 9, Wanted::SignOrEnd),
@@ -260,6 +174,80 @@ fn only_a_sample_has_hints_and_branches(rt: HostRuntime) -> Result<(), Fail> {
             "{source}"
         );
     }
+    Ok(())
+}
+
+// The form of a script's one move.
+fn form_of<'s, 'a>(items: &'s [Item<'a>]) -> Option<&'s Form<'a>> {
+    match items {
+        [Item::Move(step)] => Some(&step.form),
+        _ => None,
+    }
+}
+
+#[test]
+fn an_expression_is_a_name_and_its_arguments(rt: HostRuntime) -> Result<(), Fail> {
+    let script = read_script(rt.alloc(), "exact ((h a 0 (b + c)))", false)?;
+    let Some(Form::Exact(expr)) = form_of(script.items.as_slice()) else {
+        panic!(rt; "no expression");
+    };
+    assert!(rt; expr.name.text == "h");
+    let [a, zero, group] = expr.args.as_slice() else {
+        panic!(rt; "other arguments");
+    };
+    assert_eq!(rt; a.tokens.len(), 1);
+    assert_eq!(rt; a.end, 12);
+    assert_eq!(rt; zero.tokens.len(), 1);
+    assert_eq!(rt; group.tokens.len(), 5);
+    assert_eq!(rt; group.end, 21);
+    Ok(())
+}
+
+#[test]
+fn rules_and_terms_stand_with_commas(rt: HostRuntime) -> Result<(), Fail> {
+    let script = read_script(rt.alloc(), "rw [← h, (g a), <- f] at at", false)?;
+    let Some(Form::Rw { rules, place }) = form_of(script.items.as_slice()) else {
+        panic!(rt; "no rules");
+    };
+    let [h, g, f] = rules.as_slice() else {
+        panic!(rt; "other rules");
+    };
+    assert!(rt; h.back && !g.back && f.back);
+    assert!(rt; g.expr.name.text == "g" && g.expr.args.len() == 1);
+    assert!(rt; place.is_some());
+    let script = read_script(rt.alloc(), "use := 0, f (a, b)", false)?;
+    let Some(Form::Use(terms)) = form_of(script.items.as_slice()) else {
+        panic!(rt; "no terms");
+    };
+    let [first, second] = terms.as_slice() else {
+        panic!(rt; "other terms");
+    };
+    assert_eq!(rt; first.tokens.len(), 2);
+    assert_eq!(rt; second.tokens.len(), 6);
+    Ok(())
+}
+
+#[test]
+fn a_formula_goes_to_the_sign_outside_parentheses(rt: HostRuntime) -> Result<(), Fail> {
+    let script = read_script(rt.alloc(), "have by : (x := y) := g", false)?;
+    let Some(
+        Form::Have {
+            name,
+            formula: Some(formula),
+            expr: Some(expr),
+        },
+    ) = form_of(script.items.as_slice())
+    else {
+        panic!(rt; "no formula with an expression");
+    };
+    assert!(rt; name.text == "by" && expr.name.text == "g");
+    assert_eq!(rt; formula.tokens.len(), 5);
+    assert_eq!(rt; formula.end, 19);
+    let script = read_script(rt.alloc(), "by_cases h : x := y", false)?;
+    let Some(Form::ByCases { formula, .. }) = form_of(script.items.as_slice()) else {
+        panic!(rt; "no cases");
+    };
+    assert_eq!(rt; formula.tokens.len(), 3);
     Ok(())
 }
 
@@ -286,6 +274,19 @@ fn expects_at_the_first_token_that_no_script_goes_on_with(rt: HostRuntime) -> Re
         ("rw [h", 5, Wanted::SignOrEnd),
         ("apply h at", 10, Wanted::Name),
         ("apply h at g g", 13, Wanted::SignOrEnd),
+    ] {
+        let fault = fault_of(rt, source, false);
+        assert!(rt;
+            fault == Some(ScriptFault::Expected { at, what }),
+            "{source}"
+        );
+    }
+    Ok(())
+}
+
+#[test]
+fn expects_at_the_first_token_that_no_block_goes_on_with(rt: HostRuntime) -> Result<(), Fail> {
+    for (source, at, what) in [
         ("use", 3, Wanted::Term),
         ("use a,", 6, Wanted::Term),
         ("use a)", 5, Wanted::SignOrEnd),
