@@ -5,10 +5,14 @@ mod fault;
 mod frame;
 mod frames;
 mod heading;
+mod reader;
 mod shape;
 mod stack;
 mod state;
 mod symbol;
+#[cfg(test)]
+mod tests;
 
 pub use fault::SyntaxFault;
+pub use reader::shape_of;
 pub use shape::{Binders, Bracket, Group, Op, Quantifier, Shape, Word};

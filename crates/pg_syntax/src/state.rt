@@ -1,10 +1,11 @@
 // Where a reading stands, and one symbol more.
-ghost use Rattle.std.specs.Prelude.{◌≡◌, Some, option_map, IfOk};
+ghost use Rattle.std.specs.Prelude.{◌≡◌, ◌||◌, Some, option_map, IfOk};
 ghost use Rattle.pg_grammar.specs.Shapes as grammar;
 ghost use Rattle.pg_grammar.specs.Machine as machine;
 ghost use Rattle.pg_syntax.specs.View.{op, quantifier, shape as shape_in};
 ghost use Rattle.pg_syntax.specs.Symbols.{sym};
 ghost use Rattle.pg_syntax.specs.Headings.{heading};
+ghost use Rattle.pg_syntax.specs.Frames.{frame as frame_in};
 ghost use Rattle.pg_syntax.specs.States.{stack as frames_in, state, operand};
 
 use crate::frame::Frame;
@@ -51,6 +52,13 @@ fn goes_on(sign: Option<Op>, min: u8, left: &Shape<'_>) -> bool
     }
 }
 
+// Whether the operand stays in this frame: it is a parenthesis, or the sign goes on in it.
+fn stays(frame: &Frame<'_>, operand: &Shape<'_>, sign: Option<Op>) -> bool
+    ensures { result ≡ (machine.is_paren (frame_in frame.now) || machine.goes_on (option_map op sign) (machine.place (frame_in frame.now)) (shape_in operand.now)) }
+{
+    frame.is_paren() || goes_on(sign, frame.place(), operand)
+}
+
 // The operand leaves its frames up to one with which the sign goes on, or up to the innermost
 // parenthesis.
 fn reduced<'a>(
@@ -68,7 +76,7 @@ fn reduced<'a>(
         match top {
             None => return Ok(Operand { stack: outer, shape }),
             Some(frame) => {
-                if frame.is_paren() || goes_on(sign, frame.place(), shape.get()) {
+                if stays(&frame, shape.get(), sign) {
                     let stack = outer.pushed(frame)?;
                     return Ok(Operand { stack, shape });
                 }
