@@ -1,2 +1,4 @@
 pub mod Lists
 pub mod Nested
+pub mod Reading
+pub mod Answering

@@ -78,3 +78,10 @@ Takes next room at (Err (Long p)) = (judged room next ≡ Some faults.Long) × (
 Takes next room at (Err OutOfMemory) = Unit {0}
 Takes next room at (Err (Unknown p)) = ⊥
 Takes next room at (Err (Arity p has needs)) = ⊥
+
+-- at the end
+abbrev pub Ends : Option grammar.Shape → ℕ → Result Shape SyntaxFault → Type 0
+Ends o end (Ok s) = o ≡ Some (shape s)
+Ends o end (Err (Expected p what)) = (o ≡ None) × (p ≡ end)
+Ends o end (Err OutOfMemory) = Unit {0}
+Ends o end (Err _) = ⊥

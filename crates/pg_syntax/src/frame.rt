@@ -1,5 +1,5 @@
 // What is still open behind the symbols that have been read.
-ghost use Rattle.std.specs.Prelude.{◌≡◌, IfOk};
+ghost use Rattle.std.specs.Prelude.{◌≡◌, false, IfOk, MatchOption};
 ghost use Rattle.pg_grammar.specs.Machine as machine;
 ghost use Rattle.pg_syntax.specs.View.{shape};
 ghost use Rattle.pg_syntax.specs.Frames.{frame};
@@ -43,6 +43,16 @@ impl<'a> Frame<'a> {
         ensures { result ≡ machine.is_paren (frame self.now) }
     {
         matches!(self, Frame::Paren(_))
+    }
+
+    /// The place of an open parenthesis, or None where it is none.
+    pub fn paren(self) -> Option<u32>
+        ensures { MatchOption result (machine.is_paren (frame self.entry) ≡ false) (λ at. frame self.entry ≡ machine.InParen at) }
+    {
+        match self {
+            Frame::Paren(at) => Some(at),
+            _ => None,
+        }
     }
 
     /// The shape that it makes with its operand. It fails only for want of memory.

@@ -26,11 +26,11 @@ fn nests(inner: &Frame<'_>) -> u64
     }
 }
 
-// Frames are in memory, so their number and one more is one.
+// Frames are in memory, so their number and two more is one.
 fn fits(frames: &Items<Frame<'_>>)
-    ensures { length frames.now + 1 < 2 ^ 64 }
+    ensures { length frames.now + 2 < 2 ^ 64 }
 {
-    let _more = frames.as_slice().len() + 1;
+    let _more = frames.as_slice().len() + 2;
 }
 
 impl<'a> Stack<'a> {
@@ -97,7 +97,7 @@ impl<'a> Stack<'a> {
     /// How deep an operand in these frames is nested.
     pub fn nesting(&self) -> u64
         ensures nested { result ≡ machine.nesting (stack self.now) }
-        ensures small { result < 2 ^ 63 }
+        ensures small { result + 2 < 2 ^ 64 }
     {
         fits(&self.frames);
         self.nesting

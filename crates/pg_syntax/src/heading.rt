@@ -1,5 +1,5 @@
 // The names of a quantifier, as far as they stand.
-ghost use Rattle.std.specs.Prelude.{◌≡◌, ◌<◌, ◌^◌, ◌∷◌, [], ◌++◌, option_map, IfOk};
+ghost use Rattle.std.specs.Prelude.{◌≡◌, ◌+◌, ◌<◌, ◌^◌, ◌∷◌, [], ◌++◌, option_map, IfOk};
 ghost use Rattle.pg_grammar.specs.Machine as machine;
 ghost use Rattle.pg_syntax.specs.View.{word, group, binders};
 ghost use Rattle.pg_syntax.specs.Headings.{heading};
@@ -117,7 +117,7 @@ impl<'a> Heading<'a> {
 
     /// How deep the last of these names and signs is nested, where the quantifier is `depth` deep.
     pub fn depth(&self, depth: u64) -> u64
-        requires { depth < 2 ^ 63 }
+        requires { depth + 2 < 2 ^ 64 }
         ensures { result ≡ machine.heading_depth (heading self.now) depth }
     {
         match self {

@@ -4,7 +4,7 @@ ghost use Rattle.pg_base.specs.Tokens.{word};
 ghost use Rattle.pg_grammar.specs.Machine as machine;
 ghost use Rattle.pg_syntax.specs.Symbols.{symbol as symbol_of};
 ghost use Rattle.pg_syntax.specs.States.{state as state_of};
-ghost use Rattle.pg_syntax.specs.Answers.{Takes, Gives, IsRight, shape_answer};
+ghost use Rattle.pg_syntax.specs.Answers.{Takes, Ends, Gives, IsRight, shape_answer};
 
 use crate::fault::SyntaxFault;
 use crate::shape::Shape;
@@ -44,6 +44,38 @@ fn taken<'a>(
     Ok(next)
 }
 
+// All tokens have been taken.
+fn finished<'a>(alloc: Global, state: State<'a>, end: u32) -> Result<Shape<'a>, SyntaxFault>
+    ensures { Ends (machine.ended (state_of state.entry)) end result }
+{
+    let what = state.wanted();
+    match state.ended(alloc) {
+        Ok(Some(shape)) => Ok(shape.into_inner()),
+        Ok(None) => Err(SyntaxFault::Expected { at: end, what }),
+        Err(_) => Err(SyntaxFault::OutOfMemory),
+    }
+}
+
+// The shape of these tokens, or the first fault.
+fn read_shape<'a>(
+    alloc: Global,
+    tokens: &[Token<'a>],
+    end: u32,
+) -> Result<Shape<'a>, SyntaxFault>
+    ensures { Gives (shape_answer end (map word tokens.now)) result }
+{
+    let mut state = State::Wants(Stack::new(alloc));
+    let mut room = TOKEN_LIMIT;
+    for token in tokens {
+        state = match taken(alloc, state, token, room) {
+            Ok(next) => next,
+            Err(fault) => return Err(fault),
+        };
+        room -= 1;
+    }
+    finished(alloc, state, end)
+}
+
 /// The shape of these tokens, whose end is the byte `end`. Where they have none, or are nested over 100
 /// or more than 8,192, it is the first fault: at one token `Expected` before `Deep` before `Long`. Its
 /// place is that of the token, or `end`. Want of memory is `OutOfMemory`.
@@ -55,19 +87,5 @@ pub fn shape_of<'a>(
     ensures reads { Gives (shape_answer end (map word tokens.now)) result }
     ensures right { IsRight end (map word tokens.now) result }
 {
-    let mut state = State::Wants(Stack::new(alloc));
-    let mut room = TOKEN_LIMIT;
-    for token in tokens {
-        state = match taken(alloc, state, token, room) {
-            Ok(next) => next,
-            Err(fault) => return Err(fault),
-        };
-        room -= 1;
-    }
-    let what = state.wanted();
-    match state.ended(alloc) {
-        Ok(Some(shape)) => Ok(shape.into_inner()),
-        Ok(None) => Err(SyntaxFault::Expected { at: end, what }),
-        Err(_) => Err(SyntaxFault::OutOfMemory),
-    }
+    read_shape(alloc, tokens, end)
 }

@@ -131,13 +131,10 @@ impl Op {
         ensures { result ≡ grammar.right_min (op self) }
     {
         match self {
-            Op::Implies => 25,
-            Op::Or => 30,
-            Op::And => 35,
+            Op::Implies | Op::Or | Op::And | Op::Power => self.level(),
             Op::Equal | Op::NotEqual | Op::LessEqual | Op::Less => 51,
             Op::Plus => 66,
             Op::Times => 71,
-            Op::Power => 75,
         }
     }
 }

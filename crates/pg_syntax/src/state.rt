@@ -193,13 +193,29 @@ fn closed<'a>(
 {
     let Operand { stack, shape } = reduced(alloc, frames, inner, None)?;
     let (top, outer) = stack.popped();
-    match top {
-        Some(Frame::Paren(at)) => {
-            let atom = Boxed::new(alloc, Shape::Paren(at, shape))?;
-            Ok(Some(settled(alloc, outer, atom)?))
-        }
-        _ => Ok(None),
+    let Some(frame) = top else {
+        return Ok(None);
+    };
+    let Some(at) = frame.paren() else {
+        return Ok(None);
+    };
+    let atom = Boxed::new(alloc, Shape::Paren(at, shape))?;
+    Ok(Some(settled(alloc, outer, atom)?))
+}
+
+// An argument in parentheses begins.
+fn opened<'a>(
+    frames: Stack<'a>,
+    f: Boxed<Shape<'a>>,
+    at: u32,
+) -> Result<Option<State<'a>>, AllocError>
+    ensures { IfOk result (λ o. option_map state o ≡ machine.step (machine.Has (frames_in frames.entry) (shape_in f.entry)) (grammar.Open at)) }
+{
+    if !f.get().can_apply() {
+        return Ok(None);
     }
+    let inside = frames.pushed(Frame::Arg(f))?;
+    Ok(Some(State::Wants(inside.pushed(Frame::Paren(at))?)))
 }
 
 // An operand stands there, and this symbol behind it.
@@ -215,16 +231,27 @@ fn has<'a>(
         Sym::Name(x) => applied(alloc, frames, left, Shape::Named(x)),
         Sym::Number(n) => applied(alloc, frames, left, Shape::Numeral(n)),
         Sym::False(at) => applied(alloc, frames, left, Shape::Falsum(at)),
-        Sym::Open(at) => {
-            if !left.get().can_apply() {
-                return Ok(None);
-            }
-            let inside = frames.pushed(Frame::Arg(left))?;
-            Ok(Some(State::Wants(inside.pushed(Frame::Paren(at))?)))
-        }
+        Sym::Open(at) => opened(frames, left, at),
         Sym::Infix(at, sign) => signed(alloc, frames, left, at, sign),
         Sym::Close => closed(alloc, frames, left),
         _ => Ok(None),
+    }
+}
+
+// The names go on with this symbol.
+fn named<'a>(
+    alloc: Global,
+    frames: Stack<'a>,
+    at: u32,
+    q: Quantifier,
+    names: Heading<'a>,
+    symbol: Sym<'a>,
+) -> Result<Option<State<'a>>, AllocError>
+    ensures { IfOk result (λ o. option_map state o ≡ option_map (machine.Binds (frames_in frames.entry) at (quantifier q)) (machine.heading_step (heading names.entry) (sym symbol.entry))) }
+{
+    match names.step(alloc, symbol)? {
+        Some(more) => Ok(Some(State::Binds(frames, at, q, more))),
+        None => Ok(None),
     }
 }
 
@@ -244,10 +271,7 @@ fn binds<'a>(
             Some(all) => Ok(Some(State::Wants(frames.pushed(Frame::Quant(at, q, all))?))),
             None => Ok(None),
         },
-        _ => match names.step(alloc, symbol)? {
-            Some(more) => Ok(Some(State::Binds(frames, at, q, more))),
-            None => Ok(None),
-        },
+        _ => named(alloc, frames, at, q, names, symbol),
     }
 }
 
