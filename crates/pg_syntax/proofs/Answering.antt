@@ -5,7 +5,7 @@ use Rattle.pg_base.specs.Tokens.{Word, word}
 use Rattle.pg_base.specs.declared.token.Token.{Token}
 use Rattle.pg_grammar.specs.Shapes as grammar
 use Rattle.pg_grammar.specs.Faults as faults
-use Rattle.pg_grammar.specs.Machine.{State, step, ended, stopped, read_from, whole, read}
+use Rattle.pg_grammar.specs.Machine.{Frame, State, Wants, step, ended, stopped, read_from, whole, read}
 use Rattle.pg_grammar.proofs.Reader.{reading-good}
 use Rattle.pg_syntax.specs.View.{shape}
 use Rattle.pg_syntax.specs.Symbols.{symbol}
@@ -54,6 +54,9 @@ right end words result e = right-of end words (read limits (map symbol words)) (
 -- what is left to read decides the reading
 abbrev pub Reads : ℕ → State → List Token → List Token → Type 0
 Reads room st left tokens = whole (read_from 100 room st (symbols left)) ≡ read limits (symbols tokens)
+
+pub reads_start : (tokens : List Token) (frames : List Frame) → frames ≡ [] → Reads 8192 (Wants frames) tokens tokens
+reads_start tokens frames e = ap (λ l. whole (read_from 100 8192 (Wants l) (symbols tokens))) e
 
 pub turn : (tokens : List Token) (i room : ℕ) (t : Token) (st next : State) → i < length tokens → get_or tokens i t ≡ t → Reads room st (drop i tokens) tokens
     → step st (symbol (word t)) ≡ Some next → judged room (step st (symbol (word t))) ≡ None → Reads (room - 1) next (drop (i + 1) tokens) tokens

@@ -2,3 +2,4 @@ pub mod Lists
 pub mod Nested
 pub mod Reading
 pub mod Answering
+pub mod Binding

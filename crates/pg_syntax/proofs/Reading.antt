@@ -1,5 +1,6 @@
 -- One symbol more, and the operand that leaves a frame.
-use Rattle.std.proofs.Common.{◌≡◌, ℕ, ◌==◌, Bool, true, false, ◌||◌, cond, List, [], ◌∷◌, Option, Some, None, nat_lt, sym as flip, ◌∙◌, ap, refl}
+use Rattle.std.proofs.Common.{◌≡◌, ℕ, ◌==◌, Bool, true, false, ◌||◌, cond, List, [], ◌∷◌, Option, Some, None, nat_lt, sym as flip, ◌∙◌, ap, refl, arith, ◌<◌}
+use Rattle.std.proofs.lemmas.Bool.Decides.{nat_tests}
 use Rattle.pg_grammar.specs.Shapes.{Op, Sym, Shape}
 use Rattle.pg_grammar.specs.Faults.{Fault, Expected, Deep, Long, Part, Found, Lost, Reading, Refused}
 use Rattle.pg_grammar.specs.Machine.{Frame, InParen, close_in, State, Operand, is_paren, place, leaving, goes_on, reduced, depth, stopped, with_next, whole}
@@ -49,6 +50,17 @@ pub taken_next : (room : ℕ) (syms : List Sym) (end : Option Shape) (go : State
     → with_next 100 room syms end go o ≡ go next
 taken_next room syms end go o next e j =
     ap (with_next 100 room syms end go) e ∙ taken-by (nat_lt 100 (depth next)) (room == 0) syms (go next) (flip (ap (judged room) e) ∙ j)
+
+no-fault : (deep long : Bool) → cond deep (Some Deep) (cond long (Some Long) None) ≡ None → long ≡ false
+no-fault true long e = cc
+no-fault false true e = cc
+no-fault false false e = refl
+
+-- what is taken has room
+pub has_room : (room : ℕ) (o : Option State) (next : State) → o ≡ Some next → judged room o ≡ None → 0 < room
+has_room room o next e j =
+    let some : (room == 0) ≡ false = no-fault (nat_lt 100 (depth next)) (room == 0) (flip (ap (judged room) e) ∙ j) in
+    grind (arith, nat_tests, some)
 
 -- ---- a closing parenthesis
 

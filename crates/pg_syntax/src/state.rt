@@ -184,6 +184,7 @@ fn signed<'a>(
 }
 
 // A closing parenthesis behind an operand.
+#[tactic(auto, using(crate::proofs::Reading::not_closing))]
 fn closed<'a>(
     alloc: Global,
     frames: Stack<'a>,
