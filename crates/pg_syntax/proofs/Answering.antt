@@ -1,6 +1,6 @@
 -- What the reader answers is right.
 use Rattle.std.proofs.Common.{◌≡◌, ℕ, ◌+◌, ◌-◌, ◌<◌, ◌≤◌, List, [], ◌∷◌, length, drop, map, get_or, Option, Some, None, Result, Ok, Err, sym as flip, ◌∙◌, ap, refl, subst, arith}
-use Rattle.std.proofs.lemmas.List.{length-drop, length-map, drop-map, drop_more, drop_all}
+use Rattle.std.proofs.lemmas.List.{length-drop, length-map, drop-map, drop_more, drop_all, get_or_default}
 use Rattle.pg_base.specs.Tokens.{Word, word}
 use Rattle.pg_base.specs.declared.token.Token.{Token}
 use Rattle.pg_grammar.specs.Shapes as grammar
@@ -107,3 +107,15 @@ end_turn end tokens room st (Err (Deep p)) h k = absurd k
 end_turn end tokens room st (Err (Long p)) h k = absurd k
 end_turn end tokens room st (Err (Unknown p)) h k = k
 end_turn end tokens room st (Err (Arity p has needs)) h k = k
+
+-- ---- by the number of the token
+
+pub fault_index : (end : ℕ) (tokens : List Token) (i room : ℕ) (d : Token) (st : State) (fault : SyntaxFault) → i < length tokens → Reads room st (drop i tokens) tokens
+    → Takes (step st (symbol (word (get_or tokens i d)))) room (get_or tokens i d).at (Err fault) → Gives (shape_answer end (map word tokens)) (Err fault)
+fault_index end tokens i room d st fault lt h k =
+    let t : Token = get_or tokens i d in
+    fault_turn end tokens i room t st fault lt (get_or_default tokens i t d lt) h k
+
+pub end_index : (end : ℕ) (tokens : List Token) (i room : ℕ) (st : State) (result : Result Shape SyntaxFault) → length tokens ≤ i → Reads room st (drop i tokens) tokens → Ends (ended st) end result
+    → Gives (shape_answer end (map word tokens)) result
+end_index end tokens i room st result le h k = end_turn end tokens room st result (flip (ap (λ l. whole (read_from 100 room st (symbols l))) (drop_all i tokens le)) ∙ h) k
