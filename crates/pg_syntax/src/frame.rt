@@ -68,9 +68,7 @@ impl<'a> Frame<'a> {
             Frame::Next(at) => Boxed::new(alloc, Shape::Next(at, operand)),
             Frame::Arg(f) => Boxed::new(alloc, Shape::App(f, operand)),
             Frame::Neg(at) => Boxed::new(alloc, Shape::Neg(at, operand)),
-            Frame::Quant(at, q, names) => {
-                Boxed::new(alloc, Shape::Quant(at, q, names, operand))
-            }
+            Frame::Quant(at, q, names) => { Boxed::new(alloc, Shape::Quant(at, q, names, operand)) }
             Frame::Binary(at, op, left) => {
                 Boxed::new(alloc, Shape::Binary(at, op, left, operand))
             }

@@ -58,11 +58,7 @@ fn finished<'a>(alloc: Global, state: State<'a>, end: u32) -> Result<Shape<'a>, 
 
 // The shape of these tokens, or the first fault.
 #[tactic(auto, using(crate::proofs::Answering::reads_start, crate::proofs::Answering::turn, crate::proofs::Answering::fault_turn, crate::proofs::Answering::end_turn, crate::proofs::Reading::has_room))]
-fn read_shape<'a>(
-    alloc: Global,
-    tokens: &[Token<'a>],
-    end: u32,
-) -> Result<Shape<'a>, SyntaxFault>
+fn read_shape<'a>(alloc: Global, tokens: &[Token<'a>], end: u32) -> Result<Shape<'a>, SyntaxFault>
     ensures { Gives (shape_answer end (map word tokens.now)) result }
 {
     let mut state = State::Wants(Stack::new(alloc));
@@ -81,11 +77,7 @@ fn read_shape<'a>(
 /// or more than 8,192, it is the first fault: at one token `Expected` before `Deep` before `Long`. Its
 /// place is that of the token, or `end`. Want of memory is `OutOfMemory`.
 #[tactic(auto, using(crate::proofs::Answering::right))]
-pub fn shape_of<'a>(
-    alloc: Global,
-    tokens: &[Token<'a>],
-    end: u32,
-) -> Result<Shape<'a>, SyntaxFault>
+pub fn shape_of<'a>(alloc: Global, tokens: &[Token<'a>], end: u32) -> Result<Shape<'a>, SyntaxFault>
     ensures reads { Gives (shape_answer end (map word tokens.now)) result }
     ensures right { IsRight end (map word tokens.now) result }
 {

@@ -74,7 +74,10 @@ fn reduced<'a>(
     loop {
         let (top, outer) = frames.popped();
         match top {
-            None => return Ok(Operand { stack: outer, shape }),
+            None => return Ok(Operand {
+                stack: outer,
+                shape,
+            }),
             Some(frame) => {
                 if stays(&frame, shape.get(), sign) {
                     let stack = outer.pushed(frame)?;

@@ -154,7 +154,10 @@ fn operands_hang_together_by_strength(rt: HostRuntime) -> Result<(), Fail> {
         ("(forall (x y : ℕ) (z : Nat), a) → b", "[{[∀ x y|z,a]}→b]"),
     ] {
         let found = read(rt.alloc(), source, true);
-        assert!(rt; matches!(&found, Ok(text) if text.as_str() == want), "{source}");
+        assert!(rt;
+            matches!(&found, Ok(text) if text.as_str() == want),
+            "{source}"
+        );
     }
     Ok(())
 }
