@@ -13,6 +13,14 @@ enum Want<'a> {
     Hint(&'a str, bool, bool),
 }
 
+const RFL: Want<'static> = Want::Move("rfl");
+
+const LEFT: Want<'static> = Want::Move("left");
+
+const RW: Want<'static> = Want::Move("rw");
+
+const INDUCTION: Want<'static> = Want::Move("induction");
+
 #[cycle(fits)]
 fn fits(item: &Item<'_>, want: &Want<'_>) -> bool {
     match (item, want) {
@@ -63,30 +71,25 @@ fn fault_of(rt: HostRuntime, source: &str, sample: bool) -> Option<ScriptFault> 
 
 #[test]
 fn items_fall_into_blocks_by_columns(rt: HostRuntime) -> Result<(), Fail> {
-    let rfl = Want::Move("rfl");
-    let left = Want::Move("left");
-    let rw = Want::Move("rw");
     assert!(rt; reads(rt, "", false, &[]));
     assert!(rt; reads(rt, " -- nothing\n", false, &[]));
-    assert!(rt; reads(rt, "rfl; left;rfl\nleft", false, &[rfl, left, rfl, left]));
-    assert!(rt; reads(rt, "  rfl -- a\n  /- b -/ left", false, &[rfl]) == false);
-    assert!(rt; reads(rt, "  rfl -- a\n  left", false, &[rfl, left]));
-    let induction = Want::Move("induction");
+    assert!(rt; reads(rt, "rfl; left;rfl\nleft", false, &[RFL, LEFT, RFL, LEFT]));
+    assert!(rt; reads(rt, "  rfl -- a\n  /- b -/ left", false, &[RFL]) == false);
+    assert!(rt; reads(rt, "  rfl -- a\n  left", false, &[RFL, LEFT]));
     assert!(rt;
         reads(
             rt,
             "induction n with d hd\n· rw [add_zero]\n  rfl\n· rw [add_succ, hd]\n  rfl\n",
             false,
-            &[induction, Want::Focus(&[rw, rfl]), Want::Focus(&[rw, rfl])]
+            &[INDUCTION, Want::Focus(&[RW, RFL]), Want::Focus(&[RW, RFL])]
         )
     );
-    let inner = [Want::Focus(&[rfl]), left];
     assert!(rt;
         reads(
             rt,
             "· · rfl\n  left\nrfl",
             false,
-            &[Want::Focus(&inner), rfl]
+            &[Want::Focus(&[Want::Focus(&[RFL]), LEFT]), RFL]
         )
     );
     assert!(rt;
@@ -94,16 +97,16 @@ fn items_fall_into_blocks_by_columns(rt: HostRuntime) -> Result<(), Fail> {
             rt,
             "·\n  rfl; left\n  rfl",
             false,
-            &[Want::Focus(&[rfl, left, rfl])]
+            &[Want::Focus(&[RFL, LEFT, RFL])]
         )
     );
-    assert!(rt; reads(rt, "· rfl\n ; left", false, &[Want::Focus(&[rfl]), left]));
+    assert!(rt; reads(rt, "· rfl\n ; left", false, &[Want::Focus(&[RFL]), LEFT]));
     assert!(rt;
         reads(
             rt,
             "· rfl; left\n   ; rfl",
             false,
-            &[Want::Focus(&[rfl, left, rfl])]
+            &[Want::Focus(&[RFL, LEFT, RFL])]
         )
     );
     assert!(rt;
@@ -111,10 +114,10 @@ fn items_fall_into_blocks_by_columns(rt: HostRuntime) -> Result<(), Fail> {
             rt,
             "rfl; · left\n       rfl\nrfl",
             false,
-            &[rfl, Want::Focus(&[left, rfl]), rfl]
+            &[RFL, Want::Focus(&[LEFT, RFL]), RFL]
         )
     );
-    assert!(rt; reads(rt, "rfl;\nleft", false, &[rfl, left]));
+    assert!(rt; reads(rt, "rfl;\nleft", false, &[RFL, LEFT]));
     assert!(rt;
         reads(
             rt,
@@ -179,8 +182,11 @@ fn a_hint_has_each_option_at_most_once(rt: HostRuntime) -> Result<(), Fail> {
 
 // The form of a script's one move.
 fn form_of<'s, 'a>(items: &'s [Item<'a>]) -> Option<&'s Form<'a>> {
-    match items {
-        [Item::Move(step)] => Some(&step.form),
+    let [item] = items else {
+        return None;
+    };
+    match item {
+        Item::Move(step) => Some(&step.form),
         _ => None,
     }
 }
