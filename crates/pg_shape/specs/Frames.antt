@@ -1,0 +1,17 @@
+-- What a value of the Rust type stands for, and a stack of them: a Rust list has the innermost frame last.
+use Rattle.std.specs.Prelude.{List, map, reverse}
+use Rattle.pg_grammar.specs.Machine as machine
+use Rattle.pg_shape.specs.View.{op, quantifier, binders, shape}
+use Rattle.pg_shape.specs.declared.frame.Frame.{Frame}
+use Rattle.pg_shape.specs.declared.frame.Frame.TheVariants.{Paren, Next, Arg, Neg, Quant, Binary}
+
+abbrev pub frame : Frame → machine.Frame
+frame (Paren at) = machine.InParen at
+frame (Next at) = machine.InNext at
+frame (Arg f) = machine.InArg (shape f)
+frame (Neg at) = machine.InNeg at
+frame (Quant at q b) = machine.InQuant at (quantifier q) (binders b)
+frame (Binary at o l) = machine.InBinary at (op o) (shape l)
+
+abbrev pub frames : List Frame → List machine.Frame
+frames fs = reverse (map frame fs)

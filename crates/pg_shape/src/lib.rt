@@ -1,0 +1,18 @@
+//! Reading terms and formulas from tokens.
+#![tactic(auto)]
+
+mod fault;
+mod frame;
+mod frames;
+mod heading;
+mod reader;
+mod shape;
+mod stack;
+mod state;
+mod symbol;
+#[cfg(test)]
+mod tests;
+
+pub use fault::ShapeFault;
+pub use reader::shape_of;
+pub use shape::{Binders, Bracket, Group, Op, Quantifier, Shape, Word};

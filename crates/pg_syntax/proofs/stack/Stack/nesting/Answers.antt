@@ -1,6 +1,0 @@
-use Rattle.std.proofs.Common.{arith}
-use Rattle.pg_syntax.proofs.Nested.{nesting_fits}
-use Rattle.pg_syntax.proofs.stack.Stack.nesting.Goals as goal
-
-pub returns-clause-small : goal.returns-clause-small
-returns-clause-small c = omega (arith, nesting_fits c.args.self.now.frames, c.args.self.now.counted, c.fits.ensures)
