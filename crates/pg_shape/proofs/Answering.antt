@@ -14,7 +14,7 @@ use Rattle.pg_shape.specs.Answers.{limits, place, last_words, Answer, Shaped, Br
 use Rattle.pg_shape.specs.declared.shape.Shape.{Shape}
 use Rattle.pg_shape.specs.declared.state.State.{State as RustState}
 use Rattle.pg_shape.specs.declared.fault.ShapeFault.{ShapeFault}
-use Rattle.pg_shape.specs.declared.fault.ShapeFault.TheVariants.{Expected, Unknown, Arity, Deep, Long, OutOfMemory}
+use Rattle.pg_shape.specs.declared.fault.ShapeFault.TheVariants.{Expected, Deep, Long, OutOfMemory}
 use Rattle.pg_shape.proofs.Reading.{refused_next, taken_next}
 
 abbrev pub symbols : List Token → List grammar.Sym
@@ -43,8 +43,6 @@ right-of end words (faults.Refused f rest) h (Err (Expected at what)) e = fault-
 right-of end words (faults.Refused f rest) h (Err (Deep at)) e = fault-at end words f faults.Deep rest at h e
 right-of end words (faults.Refused f rest) h (Err (Long at)) e = fault-at end words f faults.Long rest at h e
 right-of end words r h (Err OutOfMemory) e = tt
-right-of end words r h (Err (Unknown at)) e = e
-right-of end words r h (Err (Arity at has needs)) e = e
 
 pub right : (end : ℕ) (words : List Word) (result : Result Shape ShapeFault) → Gives (shape_answer end words) result → IsRight end words result
 right end words result e = right-of end words (read limits (map symbol words)) (reading-good limits (map symbol words)) result e
@@ -91,8 +89,6 @@ fault_turn end tokens i room t st (Expected p what) lt is h k = stop end tokens 
 fault_turn end tokens i room t st (Deep p) lt is h k = stop end tokens i room t st faults.Deep lt is h k.0 ∙ ap (Broken faults.Deep) (flip k.1)
 fault_turn end tokens i room t st (Long p) lt is h k = stop end tokens i room t st faults.Long lt is h k.0 ∙ ap (Broken faults.Long) (flip k.1)
 fault_turn end tokens i room t st OutOfMemory lt is h k = tt
-fault_turn end tokens i room t st (Unknown p) lt is h k = k
-fault_turn end tokens i room t st (Arity p has needs) lt is h k = k
 
 last-nothing : (end : ℕ) (words : List Word) → place end (last_words words []) ≡ end
 last-nothing end words = ap (place end) (drop_all (length words - 0) words (omega arith))
@@ -105,8 +101,6 @@ end_turn end tokens room st (Err (Expected p what)) h k =
 end_turn end tokens room st (Err OutOfMemory) h k = tt
 end_turn end tokens room st (Err (Deep p)) h k = absurd k
 end_turn end tokens room st (Err (Long p)) h k = absurd k
-end_turn end tokens room st (Err (Unknown p)) h k = k
-end_turn end tokens room st (Err (Arity p has needs)) h k = k
 
 -- ---- by the number of the token
 
