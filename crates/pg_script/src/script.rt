@@ -106,7 +106,8 @@ fn items_in<'a>(
 ///
 /// The faults are those of [`ScriptFault`] but for `Lex`. `TooLong` counts from the first token to
 /// the end of the last, and comes before the others; of these the one of least place comes. At one
-/// place `Expected` comes before `TooMany`, and that before `Deep`.
+/// place `Expected` comes before `TooMany`, and that before `Deep`. `OutOfMemory` comes where the
+/// script finds no memory. Places are in bytes. The rules stand in docs/PLAYING.md.
 pub fn read_items<'a>(
     alloc: Global,
     tokens: &[Token<'a>],
@@ -191,7 +192,8 @@ fn broken<'a>(
 ///
 /// The faults are those of [`ScriptFault`]. `TooLong` comes before the others; of these the one of
 /// least place comes, where a token that has a fault may be any token. At one place `Lex` comes
-/// before `Expected`, that before `TooMany`, and that before `Deep`.
+/// before `Expected`, that before `TooMany`, and that before `Deep`. `OutOfMemory` comes where the
+/// script finds no memory. Places are in bytes. The rules stand in docs/PLAYING.md.
 pub fn read_script<'a>(
     alloc: Global,
     source: &'a str,
