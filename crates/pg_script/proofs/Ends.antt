@@ -1,11 +1,8 @@
 -- Tokens in order end at the end or before it.
-use Rattle.std.proofs.Common.{◌≡◌, ◌∙◌, ℕ, zero, suc, ◌+◌, ◌-◌, ◌≤◌, ◌<◌, ◌^◌, List, [], ◌∷◌, length, drop, subst, arith, sym, ap, refl}
-use Rattle.pg_base.specs.declared.token.TokenKind.TheVariants.{Name, Number, Text, Sign as SignToken}
-use Rattle.pg_base.specs.declared.token.TokenKind.{TokenKind}
+use Rattle.std.proofs.Common.{◌≡◌, ℕ, ◌≤◌, ◌<◌, ◌^◌, List, [], ◌∷◌, drop, subst, arith}
 use Rattle.pg_base.specs.declared.token.Token.{Token}
 use Rattle.pg_base.specs.Tokens.{Word, word}
 use Rattle.pg_script.specs.View.{words}
-use Rattle.pg_base.specs.Layout.{written}
 use Rattle.pg_base.specs.Spans.{AreInOrder, token_end}
 
 pub order_bound : (at end : ℕ) (ws : List Word) → AreInOrder at end ws → at ≤ end

@@ -1,5 +1,5 @@
 -- A script that is read is laid out by columns.
-use Rattle.std.proofs.Common.{◌≡◌, ◌∙◌, ℕ, zero, suc, ◌+◌, ◌-◌, ◌<◌, Bool, true, false, ◌&&◌, ◌||◌, List, [], ◌∷◌, ◌++◌, length, take, drop, refl, sym, ap, subst, arith, append_assoc, append-nil, length-append, Option, Some, None, Ok, Err, if◌then◌else◌, IsTrue, IsFalse, ◌==◌, nat_lt}
+use Rattle.std.proofs.Common.{◌≡◌, ◌∙◌, ℕ, zero, suc, ◌-◌, ◌<◌, Bool, true, false, ◌&&◌, ◌||◌, List, [], ◌∷◌, ◌++◌, length, take, drop, refl, sym, ap, subst, arith, append_assoc, append-nil, length-append, Option, Some, None, Ok, Err, if◌then◌else◌, IsTrue, IsFalse, ◌==◌, nat_lt}
 use Rattle.std.proofs.lemmas.List.{take-append-drop}
 use Rattle.pg_base.specs.declared.token.Wanted.TheVariants as wanted
 use Rattle.pg_base.specs.Tokens.{Word}
@@ -7,10 +7,10 @@ use Rattle.pg_script.specs.declared.fault.ScriptFault.{ScriptFault}
 use Rattle.pg_script.specs.declared.fault.ScriptFault.TheVariants.{Expected}
 use Rattle.pg_script.specs.declared.block.Kind.{Kind}
 use Rattle.pg_script.specs.declared.block.Kind.TheVariants as kind
-use Rattle.pg_script.specs.Data.{Entry, move, focus, branch, hint, entries_of, Step, Remark}
+use Rattle.pg_script.specs.Data.{Entry, move, focus, branch, hint, entries_of}
 use Rattle.pg_script.specs.Marks.{place}
 use Rattle.pg_script.specs.Lines.{Read, and_then, ended, hint_at}
-use Rattle.pg_script.specs.Blocks.{ReadEntries, ends_line, is_semicolon, line_length, kind_of, move_at, steps_of, stands_deeper, inner_at, line_of, line_at, entry_at, next_at, after_semicolon, with_entry, entries_after, entries_at, block_at}
+use Rattle.pg_script.specs.Blocks.{ReadEntries, ends_line, is_semicolon, line_length, kind_of, move_at, steps_of, stands_deeper, inner_at, line_at, entry_at, next_at, after_semicolon, with_entry, entries_after, entries_at, block_at}
 use Rattle.pg_script.specs.Grammar.{EndsBlock, EndsLine, GoesOn, BeginsItem, Separates, IsItem, a_move, a_hint, a_bullet, a_branch, IsBlock, last, line, semicolon, IsScript, empty, block}
 use Rattle.pg_script.specs.Scripts.{entries_of_tokens}
 use Rattle.pg_script.proofs.Laid.{item_some, by_kind, block-open, script-open, script-empty}
@@ -43,7 +43,7 @@ ends column (w ∷ ws) =
 
 -- ---- items
 
-abbrev LaidItem : Bool → (end budget column room : ℕ) → List Word → Entry × ℕ × List Word → Type 0
+abbrev pub LaidItem : Bool → (end budget column room : ℕ) → List Word → Entry × ℕ × List Word → Type 0
 LaidItem sample end budget column room ws p = (front : List Word) × (ws ≡ front ++ p.2) × IsItem sample end budget column room p.1 front p.2 p.0
 
 abbrev LaidBlock : Bool → (end budget column room : ℕ) → List Word → List Entry × ℕ × List Word → Type 0
@@ -71,14 +71,14 @@ hint-laid sample end budget column room w ws p k h =
     (w ∷ take n ws, ap (λ t. w ∷ t) (sym (take-append-drop n ws)), a_hint budget column room w (take n ws) (drop n ws) m.0 k (goes column ws) (ends column ws) m.1)
 
 -- a block that was read deeper in, with one block fewer to nest
-record Inside (sample : Bool) (end budget room : ℕ) (v : Word) (vs : List Word) (p : List Entry × ℕ × List Word) : Type 0 where
+pub record Inside (sample : Bool) (end budget room : ℕ) (v : Word) (vs : List Word) (p : List Entry × ℕ × List Word) : Type 0 where
   fewer : ℕ
   is : budget ≡ suc fewer
   more : List Word
   whole : vs ≡ more ++ p.2
   inner : IsBlock sample end fewer v.column room p.1 (v ∷ more) p.2 p.0
 
-abbrev Insides : Bool → (end budget : ℕ) → (ℕ → List Word → ReadEntries) → Type 0
+abbrev pub Insides : Bool → (end budget : ℕ) → (ℕ → List Word → ReadEntries) → Type 0
 Insides sample end budget inner = (room : ℕ) (v : Word) (vs : List Word) (p : List Entry × ℕ × List Word) → inner room (v ∷ vs) ≡ Ok p → Inside sample end budget room v vs p
 
 -- the block behind a bullet or a branch
@@ -130,7 +130,7 @@ kind-laid sample end budget column room inner w ws p kind.Branch all k h =
     let P : Entry × ℕ × List Word → Type 0 = LaidItem sample end budget column room (w ∷ ws) in
     subst P (inj (branch (entries_of m.0.0), m.0.1, m.0.2) p m.2) (branch-laid sample end budget column room w ws m.0 k (behind-laid sample end budget column room inner w ws m.0 all m.1))
 
-item-laid : (sample : Bool) (end budget column room : ℕ) (inner : ℕ → List Word → ReadEntries) (ws : List Word) (p : Entry × ℕ × List Word) → Insides sample end budget inner
+pub item-laid : (sample : Bool) (end budget column room : ℕ) (inner : ℕ → List Word → ReadEntries) (ws : List Word) (p : Entry × ℕ × List Word) → Insides sample end budget inner
     → entry_at inner sample column end room ws ≡ Ok p → LaidItem sample end budget column room ws p
 item-laid sample end budget column room inner [] p all h = absurd (clash (Expected end wanted.Item) p h)
 item-laid sample end budget column room inner (w ∷ ws) p all h = kind-laid sample end budget column room inner w ws p (kind_of sample w) all refl h
@@ -257,7 +257,7 @@ no-block : (sample : Bool) (end room : ℕ) (ws : List Word) → (e : ScriptFaul
 unfolding block_at
 no-block sample end room ws = (_, refl)
 
-insides : (sample : Bool) (end budget : ℕ) → Insides sample end budget (block_at budget sample end)
+pub insides : (sample : Bool) (end budget : ℕ) → Insides sample end budget (block_at budget sample end)
 insides sample end zero room v vs p h = let n = no-block sample end room (v ∷ vs) in absurd (clash n.0 p (sym n.1 ∙ h))
 insides sample end (suc budget) room v vs p h =
     let b = block-laid sample end budget v.column (block_at budget sample end) (length (v ∷ vs)) room (v ∷ vs) p

@@ -1,5 +1,5 @@
 -- A script that is laid out by columns is read.
-use Rattle.std.proofs.Common.{◌≡◌, ◌∙◌, ℕ, zero, suc, ◌+◌, ◌-◌, ◌≤◌, ◌<◌, Bool, true, false, ◌&&◌, ◌||◌, List, [], ◌∷◌, ◌++◌, length, take, drop, refl, sym, ap, arith, append_assoc, append-nil, length-append, Option, Some, None, Ok, Err, if◌then◌else◌, IsTrue, IsFalse, ◌==◌, nat_lt}
+use Rattle.std.proofs.Common.{◌≡◌, ◌∙◌, ℕ, zero, suc, ◌-◌, ◌≤◌, ◌<◌, Bool, true, false, ◌&&◌, List, [], ◌∷◌, ◌++◌, length, drop, refl, sym, ap, arith, append_assoc, append-nil, length-append, Option, Some, None, Ok, Err, if◌then◌else◌, IsTrue, IsFalse, nat_lt}
 use Rattle.std.proofs.lemmas.List.{take_at, drop_at}
 use Rattle.pg_base.specs.Tokens.{Word}
 use Rattle.pg_base.specs.declared.token.Wanted.TheVariants as wanted
@@ -9,7 +9,7 @@ use Rattle.pg_script.specs.declared.block.Kind.TheVariants as kind
 use Rattle.pg_script.specs.Data.{Entry, move, focus, branch, hint, entries_of, Step, Remark}
 use Rattle.pg_script.specs.Marks.{place}
 use Rattle.pg_script.specs.Lines.{Read, and_then, ended, hint_at}
-use Rattle.pg_script.specs.Blocks.{ReadEntries, ends_line, is_semicolon, line_length, kind_of, move_at, steps_of, stands_deeper, inner_at, line_of, line_at, entry_at, next_at, with_entry, entries_after, entries_at, block_at}
+use Rattle.pg_script.specs.Blocks.{ReadEntries, line_length, move_at, steps_of, stands_deeper, inner_at, line_of, line_at, entry_at, next_at, with_entry, entries_after, entries_at, block_at}
 use Rattle.pg_script.specs.Grammar.{EndsBlock, EndsLine, GoesOn, BeginsItem, Separates, IsItem, a_move, a_hint, a_bullet, a_branch, IsBlock, last, line, semicolon, IsScript, empty, block}
 use Rattle.pg_script.specs.Scripts.{entries_of_tokens}
 

@@ -1,8 +1,14 @@
+pub mod Alike
 pub mod Arguments
+pub mod Counts
 pub mod Ends
+pub mod Forms
 pub mod Found
 pub mod Items
 pub mod Laid
 pub mod Lists
+pub mod Places
 pub mod Promises
+pub mod Readers
+pub mod Starts
 pub mod Turns

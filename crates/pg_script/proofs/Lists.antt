@@ -1,8 +1,6 @@
 -- Lists that are read one after the other.
-use Rattle.std.proofs.Common.{◌≡◌, ◌∙◌, ℕ, zero, suc, ◌+◌, ◌-◌, ◌≤◌, List, [], ◌∷◌, ◌++◌, length, drop, refl, sym, ap, arith, append_assoc, append-nil, Ok, Err}
-use Rattle.pg_base.specs.Tokens.{Word}
-use Rattle.pg_script.specs.declared.fault.ScriptFault.{ScriptFault}
-use Rattle.pg_script.specs.Lines.{Read, more, with_first}
+use Rattle.std.proofs.Common.{◌≡◌, ℕ, ◌+◌, refl, ap, arith, Ok, Err}
+use Rattle.pg_script.specs.Lines.{Read, more}
 
 pub more_more : (i j : ℕ) (r : Read ℕ) → more i (more j r) ≡ more (i + j) r
 more_more i j (Ok n) = let e : i + (j + n) ≡ i + j + n = omega arith in ap Ok e

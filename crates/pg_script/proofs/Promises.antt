@@ -1,5 +1,5 @@
 -- What the two calls promise, from what they read.
-use Rattle.std.proofs.Common.{◌≡◌, ◌∙◌, ℕ, ◌≤◌, ◌<◌, Bool, true, false, List, [], ◌∷◌, length, refl, sym, ap, subst, arith, Option, Some, None, Result, Ok, Err, if◌then◌else◌, nat_lt}
+use Rattle.std.proofs.Common.{◌≡◌, ◌∙◌, ℕ, ◌≤◌, Bool, true, false, List, length, refl, sym, ap, arith, Option, Some, None, Result, Ok, Err, if◌then◌else◌, nat_lt}
 use Rattle.std.proofs.lemmas.Bool.Decides.{nat_tests}
 use Rattle.pg_base.specs.declared.token.LexFault.{LexFault}
 use Rattle.pg_base.specs.Tokens.{Word, lexed}
@@ -12,7 +12,7 @@ use Rattle.pg_script.specs.Grammar.{IsScript, ReadsScript, ReadsAll}
 use Rattle.pg_script.specs.Lines.{Read, and_then, unless_fault}
 use Rattle.pg_script.specs.Scripts.{script, entries_of_tokens, long_fault, items_of, lex_place, stands_before, broken_script, lexed_script, script_of}
 use Rattle.pg_script.proofs.Laid.{script_read}
-use Rattle.pg_script.proofs.Found.{clash, inj, and_then_ok, script_laid}
+use Rattle.pg_script.proofs.Found.{clash, inj, script_laid}
 
 only_memory : (e : ScriptFault) → ((e ≡ OutOfMemory → ⊥) → ⊥) → e ≡ OutOfMemory
 only_memory (TooLong at) h = absurd (h (λ x. cc))

@@ -1,5 +1,5 @@
 -- The rules of `rw` and the terms of `use` are read one after the other.
-use Rattle.std.proofs.Common.{◌≡◌, ◌∙◌, ℕ, zero, suc, ◌+◌, ◌-◌, ◌<◌, Bool, true, false, List, [], ◌∷◌, ◌++◌, map, refl, sym, ap, arith, append_assoc, subst, Result, Ok, Err, if◌then◌else◌}
+use Rattle.std.proofs.Common.{◌≡◌, ◌∙◌, ℕ, suc, ◌+◌, ◌-◌, ◌<◌, Bool, true, false, List, [], ◌∷◌, ◌++◌, map, sym, ap, arith, subst, Result, Ok, Err, if◌then◌else◌}
 use Rattle.std.proofs.lemmas.List.{map-append}
 use Rattle.std.specs.Result.{IsErr, IsErrAnd}
 use Rattle.pg_base.specs.declared.token.Wanted.TheVariants as wanted
@@ -10,7 +10,7 @@ use Rattle.pg_script.specs.View.{Reads}
 use Rattle.pg_script.specs.declared.span.Until.TheVariants as until
 use Rattle.pg_script.specs.Data.{Part, Rule}
 use Rattle.pg_script.specs.Joined.{joined, appended}
-use Rattle.pg_script.specs.Lines.{Read, and_then, with_first, before, part_at, terms_after, terms_at, rule_at, rule_end, rules_at}
+use Rattle.pg_script.specs.Lines.{Read, and_then, with_first, part_at, terms_after, terms_at, rule_at, rule_end, rules_at}
 use Rattle.pg_script.proofs.Arguments.{joined_first, appended_first}
 
 -- a list with one more at its end, seen as plain data

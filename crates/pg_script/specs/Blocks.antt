@@ -1,5 +1,5 @@
 -- Reading blocks, item by item.
-use Rattle.std.specs.Prelude.{ℕ, zero, suc, ◌+◌, ◌-◌, Bool, true, false, ◌&&◌, ◌||◌, List, [], ◌∷◌, length, take, drop, Option, Some, None, Result, Ok, Err, if◌then◌else◌, ◌==◌, nat_le, nat_lt, not, codes}
+use Rattle.std.specs.Prelude.{ℕ, zero, suc, ◌-◌, Bool, true, false, ◌&&◌, ◌||◌, List, [], ◌∷◌, length, take, drop, Option, Some, None, Ok, Err, if◌then◌else◌, ◌==◌, nat_le, nat_lt, not, codes}
 use Rattle.std.specs.Str.{bytes_eq}
 use Rattle.pg_base.specs.declared.token.Wanted.TheVariants as wanted
 use Rattle.pg_base.specs.Tokens.{Word}
@@ -10,7 +10,7 @@ use Rattle.pg_script.specs.declared.block.Kind.{Kind}
 use Rattle.pg_script.specs.declared.block.Kind.TheVariants as kind
 use Rattle.pg_script.specs.Data.{Shape, intro, rewrite, uses, Step, Entry, move, focus, branch, hint, entries_of}
 use Rattle.pg_script.specs.Marks.{mark, place}
-use Rattle.pg_script.specs.Lines.{Read, and_then, ended, head_of, shape_at, hint_at}
+use Rattle.pg_script.specs.Lines.{Read, and_then, head_of, shape_at, hint_at}
 
 -- the first so many items, the steps that may still stand, and the tokens that are left
 abbrev pub ReadEntries : Type 0

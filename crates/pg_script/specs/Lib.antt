@@ -1,6 +1,7 @@
 pub mod BlockView
 pub mod Blocks
 pub mod Data
+pub mod Faults
 pub mod Grammar
 pub mod Joined
 pub mod Lines

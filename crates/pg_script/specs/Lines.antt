@@ -1,5 +1,5 @@
 -- Reading what stands in one item, token by token: how many tokens a part has, expressions, and the forms of moves.
-use Rattle.std.specs.Prelude.{ℕ, zero, suc, ◌+◌, ◌-◌, Bool, true, false, ◌&&◌, List, [], ◌∷◌, ◌++◌, take, drop, Option, Some, None, option_and_then, is_some, Result, Ok, Err, if◌then◌else◌, ◌==◌, nat_le, codes}
+use Rattle.std.specs.Prelude.{ℕ, zero, suc, ◌+◌, ◌-◌, Bool, true, false, ◌&&◌, List, [], ◌∷◌, take, drop, Option, Some, None, option_and_then, is_some, Result, Ok, Err, if◌then◌else◌, ◌==◌, nat_le, codes}
 use Rattle.std.specs.Str.{bytes_eq}
 use Rattle.pg_base.specs.declared.token.Wanted.{Wanted}
 use Rattle.pg_base.specs.declared.token.Wanted.TheVariants as wanted
@@ -7,7 +7,7 @@ use Rattle.pg_base.specs.Tokens.{Word}
 use Rattle.pg_script.specs.declared.fault.ScriptFault.{ScriptFault}
 use Rattle.pg_script.specs.declared.fault.ScriptFault.TheVariants.{Expected, TooMany, Deep}
 use Rattle.pg_script.specs.declared.mark.Mark.{Mark}
-use Rattle.pg_script.specs.declared.mark.Mark.TheVariants.{Open, Close, OpenBracket, CloseBracket, Comma, Semicolon, Colon, Assign, LeftArrow, Bullet, Free, With, At, Reserved, Number, Text, Other}
+use Rattle.pg_script.specs.declared.mark.Mark.TheVariants.{Open, Close, OpenBracket, CloseBracket, Comma, Colon, Assign, LeftArrow, Free, With, At, Number, Text}
 use Rattle.pg_script.specs.declared.span.Until.{Until}
 use Rattle.pg_script.specs.declared.span.Until.TheVariants as until
 use Rattle.pg_script.specs.declared.head.Head.{Head}

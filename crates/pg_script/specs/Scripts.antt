@@ -1,5 +1,5 @@
 -- Scripts: of tokens, and of a text.
-use Rattle.std.specs.Prelude.{ℕ, ◌+◌, ◌-◌, Bool, true, false, List, [], ◌∷◌, length, map, Option, Some, None, Result, Ok, Err, if◌then◌else◌, nat_lt}
+use Rattle.std.specs.Prelude.{ℕ, ◌+◌, ◌-◌, Bool, false, List, [], ◌∷◌, length, map, Option, Some, None, Ok, Err, if◌then◌else◌, nat_lt}
 use Rattle.pg_base.specs.declared.token.LexFault.{LexFault}
 use Rattle.pg_base.specs.declared.token.LexFault.TheVariants.{BadByte, OpenString, OpenComment, LongName}
 use Rattle.pg_base.specs.Spans.{token_end}

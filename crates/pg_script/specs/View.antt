@@ -1,5 +1,5 @@
 -- The plain data that the Rust types stand for: a token without where its text lies in memory, an item list as its list.
-use Rattle.std.specs.Prelude.{◌≡◌, ℕ, List, map, Option, Some, None, option_map, Result, Ok, Err}
+use Rattle.std.specs.Prelude.{◌≡◌, List, map, Option, Some, None, option_map, Result, Ok, Err}
 use Rattle.std.specs.Borrow.{Bor}
 use Rattle.pg_base.specs.declared.token.Token.{Token}
 use Rattle.pg_base.specs.Tokens.{Word, word}
@@ -14,7 +14,7 @@ use Rattle.pg_script.specs.declared.item.MoveItem.{MoveItem}
 use Rattle.pg_script.specs.declared.item.HintItem.{HintItem}
 use Rattle.pg_script.specs.declared.item.Item.{Item, fold-Item}
 use Rattle.pg_script.specs.declared.item.Item.TheOpen.{Item-F}
-use Rattle.pg_script.specs.Data.{Part, Expression, Rule, Shape, plain, exact, intro, apply, rewrite, split, uses, symm, have, revert, by_cases, unknown, Step, Remark, Entry, Entries, move, focus, branch, hint, entries_of}
+use Rattle.pg_script.specs.Data.{Part, Expression, Rule, Shape, plain, exact, intro, apply, rewrite, split, uses, symm, have, revert, by_cases, unknown, Step, Remark, Entry, move, focus, branch, hint, entries_of}
 
 abbrev pub words : List Token → List Word
 words tokens = map word tokens

@@ -1,9 +1,10 @@
 // Scripts.
 ghost use Rattle.std.specs.Prelude.{◌≡◌, ◌<◌, ◌≤◌, ◌^◌, length, IfOk, None};
 ghost use Rattle.pg_base.specs.Tokens.{word, lexed};
-ghost use Rattle.pg_base.specs.Spans.{AreTokens, AreInOrder, token_end};
+ghost use Rattle.pg_base.specs.Spans.{AreTokens, AreTokensOf, AreInOrder, token_end};
 ghost use Rattle.pg_script.specs.Scripts.{last_end, long_fault, entries_of_tokens, items_of, lex_place, stands_before, broken_script, script_of, script};
 ghost use Rattle.pg_script.specs.Grammar.{ReadsScript, ReadsAll};
+ghost use Rattle.pg_script.specs.Faults.{TokensFault, TextFault};
 ghost use Rattle.pg_script.specs.View.{words, Reads, Passes};
 
 use crate::block::{Whole, block_at};
@@ -105,7 +106,8 @@ fn items_in<'a>(
 ///
 /// The faults are those of [`ScriptFault`] but for `Lex`. `TooLong` counts from the first token to
 /// the end of the last, and comes before the others; of these the one of least place comes. At one
-/// place `Expected` comes before `TooMany`, and that before `Deep`.
+/// place `Expected` comes before `TooMany`, and that before `Deep`. `OutOfMemory` comes where the
+/// script finds no memory. Places are in bytes. The rules stand in docs/PLAYING.md.
 pub fn read_items<'a>(
     alloc: Global,
     tokens: &[Token<'a>],
@@ -118,6 +120,8 @@ pub fn read_items<'a>(
     ensures laid_out { ReadsScript sample end (words tokens.now) result }
     // what is laid out by columns, and not too long, is read
     ensures read { long_fault (words tokens.now) ≡ None → ReadsAll sample end (words tokens.now) result }
+    // too long are exactly the tokens that are; any other fault stands where no script goes on
+    ensures place { TokensFault sample end (words tokens.now) result }
 {
     items_in(alloc, tokens, end, sample)
 }
@@ -130,6 +134,7 @@ fn tokens_before(
     requires { length source.now < 2 ^ 32 }
     ensures tokens { IfOk result (λ p. words p.0.items ≡ (lexed source.now).words) }
     ensures fault { IfOk result (λ p. p.1 ≡ (lexed source.now).fault) }
+    ensures spans { AreTokensOf source.now (lexed source.now).words }
 {
     let mut lexer = Lexer::new(source);
     let mut tokens = Vec::new(alloc);
@@ -187,7 +192,8 @@ fn broken<'a>(
 ///
 /// The faults are those of [`ScriptFault`]. `TooLong` comes before the others; of these the one of
 /// least place comes, where a token that has a fault may be any token. At one place `Lex` comes
-/// before `Expected`, that before `TooMany`, and that before `Deep`.
+/// before `Expected`, that before `TooMany`, and that before `Deep`. `OutOfMemory` comes where the
+/// script finds no memory. Places are in bytes. The rules stand in docs/PLAYING.md.
 pub fn read_script<'a>(
     alloc: Global,
     source: &'a str,
@@ -198,13 +204,16 @@ pub fn read_script<'a>(
     ensures laid_out { ReadsScript sample (length source.now) (lexed source.now).words result }
     // what is laid out by columns, and not too long, is read
     ensures read { length source.now ≤ 16384 → (lexed source.now).fault ≡ None → ReadsAll sample (length source.now) (lexed source.now).words result }
+    // too long are exactly the texts that are; any other fault is a token's, or stands where no script goes on
+    ensures place { TextFault sample source.now result }
 {
     script_in(alloc, source, sample)
 }
 
 // The script that a text is.
 fn script_in<'a>(alloc: Global, source: &'a str, sample: bool) -> Result<Script<'a>, ScriptFault>
-    ensures { Reads script (script_of source.now sample) result }
+    ensures exact { Reads script (script_of source.now sample) result }
+    ensures spans { length source.now ≤ 16384 → AreTokensOf source.now (lexed source.now).words }
 {
     if source.len() > BYTES_LIMIT {
         return Err(ScriptFault::TooLong {

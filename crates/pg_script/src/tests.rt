@@ -69,63 +69,83 @@ fn fault_of(rt: HostRuntime, source: &str, sample: bool) -> Option<ScriptFault> 
     }
 }
 
+const RFL_LEFT_RFL: Want<'static> = Want::Focus(&[RFL, LEFT, RFL]);
+
+const RW_RFL: Want<'static> = Want::Focus(&[RW, RFL]);
+
+const INNER_LEFT: Want<'static> = Want::Focus(&[Want::Focus(&[RFL]), LEFT]);
+
+const ONE_RFL: Want<'static> = Want::Focus(&[RFL]);
+
+const LEFT_RFL: Want<'static> = Want::Focus(&[LEFT, RFL]);
+
+const NOTHING: &[Want<'static>] = &[];
+
+const RFL_LEFT: &[Want<'static>] = &[RFL, LEFT];
+
 #[test]
-fn items_fall_into_blocks_by_columns(rt: HostRuntime) -> Result<(), Fail> {
-    assert!(rt; reads(rt, "", false, &[]));
-    assert!(rt; reads(rt, " -- nothing\n", false, &[]));
-    assert!(rt; reads(rt, "rfl; left;rfl\nleft", false, &[RFL, LEFT, RFL, LEFT]));
-    assert!(rt; reads(rt, "  rfl -- a\n  /- b -/ left", false, &[RFL]) == false);
-    assert!(rt; reads(rt, "  rfl -- a\n  left", false, &[RFL, LEFT]));
-    assert!(rt;
-        reads(
-            rt,
-            "induction n with d hd\n· rw [add_zero]\n  rfl\n· rw [add_succ, hd]\n  rfl\n",
-            false,
-            &[INDUCTION, Want::Focus(&[RW, RFL]), Want::Focus(&[RW, RFL])]
-        )
-    );
-    assert!(rt;
-        reads(
-            rt,
-            "· · rfl\n  left\nrfl",
-            false,
-            &[Want::Focus(&[Want::Focus(&[RFL]), LEFT]), RFL]
-        )
-    );
-    assert!(rt;
-        reads(
-            rt,
-            "·\n  rfl; left\n  rfl",
-            false,
-            &[Want::Focus(&[RFL, LEFT, RFL])]
-        )
-    );
-    assert!(rt; reads(rt, "· rfl\n ; left", false, &[Want::Focus(&[RFL]), LEFT]));
-    assert!(rt;
-        reads(
-            rt,
-            "· rfl; left\n   ; rfl",
-            false,
-            &[Want::Focus(&[RFL, LEFT, RFL])]
-        )
-    );
-    assert!(rt;
-        reads(
-            rt,
-            "rfl; · left\n       rfl\nrfl",
-            false,
-            &[RFL, Want::Focus(&[LEFT, RFL]), RFL]
-        )
-    );
-    assert!(rt; reads(rt, "rfl;\nleft", false, &[RFL, LEFT]));
-    assert!(rt;
-        reads(
-            rt,
-            "foo ] · 12 \"a\" ) (\n  bar",
-            false,
-            &[Want::Move("foo")]
-        )
-    );
+fn an_item_begins_at_its_blocks_column(rt: HostRuntime) -> Result<(), Fail> {
+    assert!(rt; reads(rt, "", false, NOTHING));
+    assert!(rt; reads(rt, " -- nothing\n", false, NOTHING));
+    for source in [
+        "rfl\nleft",
+        "rfl\n\n\nleft\n",
+        "  rfl -- a\n  left",
+        "rfl\n/- b /- c -/ -/\nleft",
+        "rfl -- a\n-- b\n  -- c\nleft",
+        "rfl; left",
+        "rfl;left",
+        "rfl;\nleft",
+        "rfl\n  ; left",
+        "rfl\n  ;\n    left",
+    ] {
+        assert!(rt; reads(rt, source, false, RFL_LEFT), "{source}");
+    }
+    Ok(())
+}
+
+const RFL_FIRST: &[Want<'static>] = &[RFL, LEFT, RFL, LEFT];
+
+const UNKNOWN: &[Want<'static>] = &[Want::Move("foo")];
+
+#[test]
+fn an_item_goes_on_at_a_greater_column(rt: HostRuntime) -> Result<(), Fail> {
+    assert!(rt; reads(rt, "rfl; left;rfl\nleft", false, RFL_FIRST));
+    assert!(rt; reads(rt, "foo ] · 12 \"a\" ) (\n  bar", false, UNKNOWN));
+    assert!(rt; reads(rt, "foo\n bar\n  baz", false, UNKNOWN));
+    Ok(())
+}
+
+const INDUCTION_BULLETS: &[Want<'static>] = &[INDUCTION, RW_RFL, RW_RFL];
+
+const INNER_LEFT_THEN_RFL: &[Want<'static>] = &[INNER_LEFT, RFL];
+
+const BULLET: &[Want<'static>] = &[RFL_LEFT_RFL];
+
+#[test]
+fn a_bullet_has_a_block_of_its_own(rt: HostRuntime) -> Result<(), Fail> {
+    let induction = "induction n with d hd\n· rw [add_zero]\n  rfl\n· rw [add_succ, hd]\n  rfl\n";
+    assert!(rt; reads(rt, induction, false, INDUCTION_BULLETS));
+    assert!(rt; reads(rt, "· · rfl\n  left\nrfl", false, INNER_LEFT_THEN_RFL));
+    for source in [
+        "·\n  rfl; left\n  rfl",
+        "· rfl; left\n   ; rfl",
+        "· rfl\n  left; rfl",
+        "· -- a\n  rfl\n  left\n  /- b -/\n  rfl",
+    ] {
+        assert!(rt; reads(rt, source, false, BULLET), "{source}");
+    }
+    Ok(())
+}
+
+const ONE_RFL_THEN_LEFT: &[Want<'static>] = &[ONE_RFL, LEFT];
+
+const BULLET_BETWEEN: &[Want<'static>] = &[RFL, LEFT_RFL, RFL];
+
+#[test]
+fn a_semicolon_belongs_to_the_innermost_open_block(rt: HostRuntime) -> Result<(), Fail> {
+    assert!(rt; reads(rt, "· rfl\n ; left", false, ONE_RFL_THEN_LEFT));
+    assert!(rt; reads(rt, "rfl; · left\n       rfl\nrfl", false, BULLET_BETWEEN));
     Ok(())
 }
 
@@ -254,6 +274,66 @@ fn a_formula_goes_to_the_sign_outside_parentheses(rt: HostRuntime) -> Result<(),
         panic!(rt; "no cases");
     };
     assert_eq!(rt; formula.tokens.len(), 3);
+    Ok(())
+}
+
+// How many tokens the formula of a script's one `have` has.
+fn formula_length(rt: HostRuntime, source: &str) -> Option<usize> {
+    let Ok(script) = read_script(rt.alloc(), source, false) else {
+        return None;
+    };
+    match form_of(script.items.as_slice()) {
+        Some(
+            Form::Have {
+                formula: Some(formula),
+                ..
+            },
+        ) => Some(formula.tokens.len()),
+        _ => None,
+    }
+}
+
+#[test]
+fn a_sign_is_one_token_in_each_of_its_spellings(rt: HostRuntime) -> Result<(), Fail> {
+    for (source, count) in [
+        ("have h : x ≠ y", 3),
+        ("have h : x!=y", 3),
+        ("have h : x ≤ y", 3),
+        ("have h : x<=y", 3),
+        ("have h : A ∧ B", 3),
+        ("have h : A/\\B", 3),
+        ("have h : A ∨ B", 3),
+        ("have h : A\\/B", 3),
+        ("have h : A → B", 3),
+        ("have h : A->B", 3),
+        ("have h : ¬A", 2),
+        ("have h : not A", 2),
+        ("have h : ∀ x : ℕ, A", 6),
+        ("have h : forall x : Nat, A", 6),
+        ("have h : ∃ x, A", 4),
+        ("have h : exists x, A", 4),
+    ] {
+        assert!(rt; formula_length(rt, source) == Some(count), "{source}");
+    }
+    Ok(())
+}
+
+#[test]
+fn a_sign_that_is_spelled_as_a_name_is_no_name(rt: HostRuntime) -> Result<(), Fail> {
+    for source in [
+        "intro ¬",
+        "intro not",
+        "intro forall",
+        "intro exists",
+        "intro Nat",
+    ] {
+        let what = Wanted::Name;
+        let fault = fault_of(rt, source, false);
+        assert!(rt;
+            fault == Some(ScriptFault::Expected { at: 6, what }),
+            "{source}"
+        );
+    }
     Ok(())
 }
 

@@ -1,4 +1,4 @@
-use Rattle.std.proofs.Common.{◌≡◌, ◌∙◌, Ok, ap, sym, map, length, subst}
+use Rattle.std.proofs.Common.{◌∙◌, Ok, ap, sym, map, length, subst}
 use Rattle.std.proofs.lemmas.List.{length-map}
 use Rattle.pg_base.specs.Tokens.{word}
 use Rattle.pg_script.specs.Blocks.{ReadEntries, entries_at, block_at}

@@ -1,4 +1,4 @@
-use Rattle.std.proofs.Common.{◌≡◌, ◌+◌, ◌≤◌, length, drop}
+use Rattle.std.proofs.Common.{◌≡◌, ◌+◌, drop}
 use Rattle.pg_script.specs.Blocks.{line_length}
 use Rattle.pg_script.specs.View.{words}
 use Rattle.pg_script.proofs.block.line_length.Given as goal

@@ -1,4 +1,4 @@
-use Rattle.std.proofs.Common.{◌≡◌, ◌≤◌, length, map}
+use Rattle.std.proofs.Common.{◌≡◌, length, map}
 use Rattle.pg_script.specs.Joined.{joined}
 use Rattle.pg_script.specs.Lines.{args_from}
 use Rattle.pg_script.specs.View.{words, part}

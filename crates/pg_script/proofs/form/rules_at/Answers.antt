@@ -1,4 +1,4 @@
-use Rattle.std.proofs.Common.{ap, map}
+use Rattle.std.proofs.Common.{map}
 use Rattle.pg_script.specs.Lines.{rules_at}
 use Rattle.pg_script.specs.View.{words, rule, with_rest}
 use Rattle.pg_script.proofs.Turns.{one_more, failed, rules_wrong, rules_last, rules_more}

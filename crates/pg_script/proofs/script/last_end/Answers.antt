@@ -1,4 +1,4 @@
-use Rattle.std.proofs.Common.{◌<◌, arith}
+use Rattle.std.proofs.Common.{arith}
 use Rattle.std.proofs.Math.Seq.{drop-cons}
 use Rattle.pg_script.proofs.Ends.{bound_at}
 use Rattle.pg_script.proofs.script.last_end.Goals as goal
