@@ -11,6 +11,8 @@ mod lookups;
 mod signature;
 #[cfg(test)]
 mod tests;
+mod values;
 
 pub use declaring::DeclareFault;
 pub use signature::Signature;
+pub use values::ValueFault;
