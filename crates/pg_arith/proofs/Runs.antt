@@ -1,8 +1,8 @@
 -- How runs go: of one function over those before it, of a recursion a step at a time, of arguments one by one.
-use Rattle.std.proofs.Common.{◌≡◌, ℕ, zero, suc, ◌+◌, ◌-◌, ◌<◌, ◌≤◌, List, [], ◌∷◌, ◌++◌, length, take, get_or, cond, ⊎_elim, refl, arith, ap, sym, ◌∙◌, subst}
+use Rattle.std.proofs.Common.{◌≡◌, ℕ, zero, suc, ◌+◌, ◌-◌, ◌<◌, ◌≤◌, List, [], ◌∷◌, ◌++◌, length, take, cond, ⊎_elim, refl, arith, ap, sym, ◌∙◌, subst}
 use Rattle.std.specs.Prelude.{Option, Some, None, Result, Ok, Err, IfOk, IsErr, IsErrAnd, slice_get, ◌==◌}
 use Rattle.std.proofs.lemmas.Bool.{eq-eqb, ne_eqb, cases_order, false≢true}
-use Rattle.pg_logic.specs.Tree.{Tm, nodes, Tms, arg, args_of, nodes_all}
+use Rattle.pg_logic.specs.Tree.{Tm}
 use Rattle.pg_logic.specs.Signature.{Function, recursive, constant}
 use Rattle.pg_logic.specs.Declarations.{function_of}
 use Rattle.pg_logic.specs.Run.{Outcome, Got, Over, Spent, then_run, use_one, Runs, run, run_all, run_recursed, run_applied, runs_from, runs_of}
@@ -10,11 +10,9 @@ use Rattle.pg_arith.specs.declared.values.ValueFault.{ValueFault}
 use Rattle.pg_arith.specs.declared.values.ValueFault.TheVariants.{OverLimit, OverBudget, OutOfMemory}
 use Rattle.pg_logic.specs.Value.{value, functions_of}
 use Rattle.pg_logic.proofs.Running.{Is, run-value}
-use Rattle.pg_terms.specs.declared.term.Term.{Term}
-use Rattle.pg_terms.specs.View.{term, args}
 use Rattle.pg_arith.specs.declared.signature.Function as declared
 use Rattle.pg_arith.specs.View.{function, plain_functions}
-use Rattle.pg_arith.specs.Outcomes.{answer, Answers, Leaves, weight_of, weight, IsUndeclared, IsDeclaredAt}
+use Rattle.pg_arith.specs.Outcomes.{answer, Answers, Leaves, IsUndeclared, IsDeclaredAt}
 
 -- later declarations change nothing
 runs_from-below : (fs : List Function) (R : Runs) (limit k i : ℕ) (xs : List ℕ) (left : ℕ) → i < k → runs_from R limit k fs i xs left ≡ R i xs left
@@ -92,17 +90,10 @@ recursed-err R limit base step xs m (suc n) left e le h =
     (λ (gt : suc n < m). absurd (omega arith)))
     (cases_order m (suc n))
 
--- the functions before one weigh less
-pub weight-before : (fs : List Function) (k : ℕ) (f : Function) → slice_get fs k ≡ Some f → weight (take k fs) + weight_of f ≤ weight fs
-weight-before [] k f e = absurd (cc)
-weight-before (g ∷ fs) zero f e = let is : weight_of g ≡ weight_of f = ap weight_of (cc) in omega (arith, is)
-weight-before (g ∷ fs) (suc k) f e = omega (arith, weight-before fs k f e)
-
--- one of the arguments has no more nodes than all
-pub nodes-one : (ts : List Term) (i : ℕ) (t : Term) → i < length ts → t ≡ get_or ts i t → nodes (term t) ≤ nodes_all (args ts)
-nodes-one [] i t lt e = absurd (omega arith)
-nodes-one (u ∷ ts) zero t lt e = omega (arith, ap (λ t. nodes (term t)) e)
-nodes-one (u ∷ ts) (suc i) t lt e = omega (arith, nodes-one ts i t (omega arith) e)
+length-before : {A : Type 0} → (xs : List A) (k : ℕ) (x : A) → slice_get xs k ≡ Some x → length (take k xs) < length xs
+length-before [] k x e = absurd (cc)
+length-before (y ∷ xs) zero x e = omega arith
+length-before (y ∷ xs) (suc k) x e = omega (arith, length-before xs k x e)
 
 pub plain-before : (fs : List declared.Function) (k : ℕ) → plain_functions (take k fs) ≡ take k (plain_functions fs)
 plain-before fs zero = refl
@@ -123,7 +114,7 @@ pub declared-at : (fs : List declared.Function) (k : ℕ) (f : declared.Function
     IsDeclaredAt (plain_functions fs) k (plain_functions (take k fs)) (function_of (function f))
 declared-at fs k f e = subst (λ before. IsDeclaredAt (plain_functions fs) k before (function_of (function f))) (sym (plain-before fs k)) (record {
   runs = λ limit xs left. runs-declared (plain_functions fs) limit k (function_of (function f)) xs left (plain-at fs k f e);
-  lighter = weight-before (plain_functions fs) k (function_of (function f)) (plain-at fs k f e);
+  fewer = length-before (plain_functions fs) k (function_of (function f)) (plain-at fs k f e);
 })
 
 pub undeclared-at : (fs : List declared.Function) (k : ℕ) → slice_get fs k ≡ None → IsUndeclared (plain_functions fs) k

@@ -1,7 +1,6 @@
 -- What is answered for a term that is valued step by step.
-use Rattle.std.specs.Prelude.{ℕ, ◌+◌, ◌≡◌, ◌≤◌, List, [], ◌∷◌, Result, Ok, Err}
-use Rattle.pg_logic.specs.Tree.{nodes}
-use Rattle.pg_logic.specs.Signature.{Function, recursive, constant}
+use Rattle.std.specs.Prelude.{ℕ, ◌≡◌, ◌<◌, length, List, Result, Ok, Err}
+use Rattle.pg_logic.specs.Signature.{Function}
 use Rattle.pg_logic.specs.Run.{Outcome, Got, Over, Spent, run_applied, runs_of}
 use Rattle.pg_arith.specs.declared.values.ValueFault.{ValueFault}
 use Rattle.pg_arith.specs.declared.values.ValueFault.TheVariants.{OverLimit, OverBudget, OutOfMemory}
@@ -22,15 +21,6 @@ abbrev pub Leaves : {A : Type 0} → Outcome A → Result A ValueFault → ℕ �
 Leaves o (Ok v) left = o ≡ Got v left
 Leaves o (Err e) left = Answers o (Err e)
 
--- how much a list of functions weighs: the nodes of all their terms, and one for each function
-abbrev pub weight_of : Function → ℕ
-weight_of (recursive n base step) = nodes base + nodes step + 1
-weight_of (constant body) = nodes body + 1
-
-abbrev pub weight : List Function → ℕ
-weight [] = 0
-weight (f ∷ fs) = weight_of f + weight fs
-
 -- no function has this number: it has the value 0
 abbrev pub IsUndeclared : List Function → ℕ → Type 0
 IsUndeclared fs k = (limit : ℕ) (xs : List ℕ) (left : ℕ) → runs_of limit fs k xs left ≡ Got 0 left
@@ -38,4 +28,4 @@ IsUndeclared fs k = (limit : ℕ) (xs : List ℕ) (left : ℕ) → runs_of limit
 -- this function has this number, and is over those before it
 pub record IsDeclaredAt (fs : List Function) (k : ℕ) (before : List Function) (f : Function) : Type 0 where
   pub runs : (limit : ℕ) (xs : List ℕ) (left : ℕ) → runs_of limit fs k xs left ≡ run_applied (runs_of limit before) limit f xs left
-  pub lighter : weight before + weight_of f ≤ weight fs
+  pub fewer : length before < length fs

@@ -8,6 +8,7 @@ mod declaring;
 mod fitting;
 pub mod laws;
 mod lookups;
+mod postfix;
 mod signature;
 #[cfg(test)]
 mod tests;

@@ -1,15 +1,18 @@
 //! The value of a term, step by step, within a limit and a budget of uses of defining equations.
 
-ghost use Rattle.std.specs.Prelude.{◌≡◌, ◌+◌, ◌-◌, ◌^◌, ◌<◌, ◌≤◌, ℕ, [], ◌∷◌, ◌++◌, take, slice_index, IfOk, MatchOption, MatchResult};
+ghost use Rattle.std.specs.Prelude.{◌≡◌, ◌+◌, ◌-◌, ◌^◌, ◌<◌, ◌≤◌, ℕ, [], ◌∷◌, ◌++◌, take, slice_index, Err, IfOk, OnOk, MatchOption, MatchResult};
 ghost use Rattle.std.specs.List.{All};
 ghost use Rattle.pg_logic.specs.Declarations.{function_of};
 ghost use Rattle.pg_logic.specs.Run as runs;
 ghost use Rattle.pg_logic.specs.Value.{value, functions_of};
-ghost use Rattle.pg_terms.specs.View.{term, args};
+ghost use Rattle.pg_logic.specs.Tree.{Tm};
+ghost use Rattle.pg_terms.specs.View.{term};
 ghost use Rattle.pg_arith.specs.declared.values.ValueFault.TheVariants.{OverBudget, OutOfMemory};
 ghost use Rattle.pg_arith.specs.View.{function, plain_functions, signature};
+ghost use Rattle.pg_arith.specs.Postfix.{postfix, run_step};
 ghost use Rattle.pg_arith.specs.Outcomes.{Answers, Leaves, IsUndeclared, IsDeclaredAt};
 
+use crate::postfix::{flatten, Step};
 use crate::signature::{Function, Recursion, Signature};
 use pg_terms::Term;
 use sqlite_items::{Items, at};
@@ -124,6 +127,24 @@ fn declaration_of(functions: &[Function], k: u16) -> Option<Declared<'_>>
     }
 }
 
+/// Puts one more value at the end.
+fn put(values: &mut Vec<u64>, v: u64) -> Result<(), ValueFault>
+    ensures { MatchResult result (λ _. values.new.items ≡ values.old.items ++ v ∷ []) (λ e. e ≡ OutOfMemory) }
+{
+    match values.push(v) {
+        Ok(()) => Ok(()),
+        Err(_) => Err(ValueFault::OutOfMemory),
+    }
+}
+
+/// Puts a value in the place of those from place `at` on.
+fn put_from(values: &mut Vec<u64>, at: usize, v: u64) -> Result<(), ValueFault>
+    ensures { MatchResult result (λ _. values.new.items ≡ take at values.old.items ++ v ∷ []) (λ e. e ≡ OutOfMemory) }
+{
+    values.truncate(at);
+    put(values, v)
+}
+
 /// The value of a term whose free variables have the values `free`.
 #[cycle(value_of)]
 fn value_of(
@@ -139,41 +160,66 @@ fn value_of(
     ensures exact { Leaves (runs.run (runs.runs_of limit (plain_functions functions.now)) limit free.now (term t.now) left.old) result left.new }
     ensures small { IfOk result (λ v. v ≤ limit) }
 {
-    match t {
-        Term::Free(i) => Ok(number_at(free, *i as usize)),
-        Term::Bound(_) | Term::Zero => Ok(0),
-        Term::Succ(t) => {
-            let v = value_of(alloc, functions, limit, free, t.get(), left)?;
-            one_more(limit, v)
-        }
-        Term::App(f, ts) => {
-            let arguments = values_of(alloc, functions, limit, free, ts.as_slice(), left)?;
-            value_at(alloc, functions, limit, *f, arguments.as_slice(), left)
-        }
-    }
+    let mut steps = Items::new(alloc);
+    flatten(&mut steps, t)?;
+    value_by(alloc, functions, limit, free, steps.as_slice(), left)
 }
 
-/// The values of terms, from left to right.
+/// The value of a term by its steps.
 #[cycle(value_of)]
-fn values_of(
+fn value_by(
     alloc: Global,
     functions: &[Function],
     limit: u64,
     free: &[u64],
-    ts: &[Term],
+    steps: &[Step],
     left: &mut u64,
-) -> Result<Items<u64>, ValueFault>
+) -> Result<u64, ValueFault>
     requires room { limit < 2 ^ 64 - 1 }
     requires within { All (λ v. v ≤ limit) free.now }
-    ensures exact { Leaves (runs.run_all (runs.runs_of limit (plain_functions functions.now)) limit free.now (args ts.now) left.old) result left.new }
-    ensures small { IfOk result (All (λ v. v ≤ limit)) }
+    ensures exact { (t : Tm) → steps.now ≡ postfix t → Leaves (runs.run (runs.runs_of limit (plain_functions functions.now)) limit free.now t left.old) result left.new }
+    ensures small { IfOk result (λ v. v ≤ limit) }
 {
-    let mut values = Items::new(alloc);
-    for t in ts {
-        let v = value_of(alloc, functions, limit, free, t, left)?;
-        values.push(v)?;
+    let mut values = Vec::new(alloc);
+    for step in steps {
+        take_step(alloc, functions, limit, free, *step, &mut values, left)?;
     }
-    Ok(values)
+    Ok(number_at(values.as_slice(), 0))
+}
+
+/// Takes one step, with the values so far.
+#[cycle(value_of)]
+fn take_step(
+    alloc: Global,
+    functions: &[Function],
+    limit: u64,
+    free: &[u64],
+    step: Step,
+    values: &mut Vec<u64>,
+    left: &mut u64,
+) -> Result<(), ValueFault>
+    requires room { limit < 2 ^ 64 - 1 }
+    requires within { All (λ v. v ≤ limit) free.now }
+    requires small { All (λ v. v ≤ limit) values.old.items }
+    ensures exact { MatchResult result
+        (λ _. run_step (runs.runs_of limit (plain_functions functions.now)) limit free.now step values.old.items left.old ≡ runs.Got values.new.items left.new)
+        (λ e. Answers (run_step (runs.runs_of limit (plain_functions functions.now)) limit free.now step values.old.items left.old) (Err e)) }
+    ensures small { OnOk result (All (λ v. v ≤ limit) values.new.items) }
+{
+    match step {
+        Step::Variable(i) => put(values, number_at(free, i as usize)),
+        Step::Zero => put(values, 0),
+        Step::AddOne => {
+            let at = values.len().saturating_sub(1);
+            let v = one_more(limit, number_at(values.as_slice(), at))?;
+            put_from(values, at, v)
+        }
+        Step::Apply(f, n) => {
+            let at = values.len().saturating_sub(n);
+            let v = value_at(alloc, functions, limit, f, &values.as_slice()[at..], left)?;
+            put_from(values, at, v)
+        }
+    }
 }
 
 /// The value of function `k` at its arguments.
