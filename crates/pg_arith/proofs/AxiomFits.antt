@@ -4,7 +4,7 @@ use Rattle.std.specs.Prelude.{slice_get, slice_index_or, option_map}
 use Rattle.std.proofs.lemmas.Bool.{and_parts, and_from, lt-ltb, eq-eqb}
 use Rattle.std.proofs.lemmas.List.{take-append-drop}
 use Rattle.std.proofs.lemmas.Option.{slice_get-map}
-use Rattle.pg_logic.specs.Tree.{Tm, free, bound, nought, succ, app, args_of, Fm, eq, kept_bound, substituted, substituted_free}
+use Rattle.pg_logic.specs.Tree.{Tm, free, bound, nought, succ, app, args_of, Fm, kept_bound, substituted, substituted_free}
 use Rattle.pg_logic.specs.Signature.{Function, recursive, constant, Signature, function_arity, takes, count, fits_term, fits_terms, fits, IsDeclared}
 use Rattle.pg_logic.specs.Truth.{IsTrueOf}
 use Rattle.pg_logic.specs.Axioms.{quantified, binders, zero_axiom, succ_axiom, constant_axiom, Axiom, equations, equations_from, axioms}

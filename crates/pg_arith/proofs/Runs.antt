@@ -1,18 +1,18 @@
 -- How runs go: of one function over those before it, of a recursion a step at a time, of arguments one by one.
 use Rattle.std.proofs.Common.{◌≡◌, ℕ, zero, suc, ◌+◌, ◌-◌, ◌<◌, ◌≤◌, List, [], ◌∷◌, ◌++◌, length, take, cond, ⊎_elim, refl, arith, ap, sym, ◌∙◌, subst}
-use Rattle.std.specs.Prelude.{Option, Some, None, Result, Ok, Err, IfOk, IsErr, IsErrAnd, slice_get, ◌==◌}
+use Rattle.std.specs.Prelude.{Some, None, Result, Ok, Err, IfOk, IsErr, IsErrAnd, slice_get, ◌==◌}
 use Rattle.std.proofs.lemmas.Bool.{eq-eqb, ne_eqb, cases_order, false≢true}
 use Rattle.pg_logic.specs.Tree.{Tm}
-use Rattle.pg_logic.specs.Signature.{Function, recursive, constant}
+use Rattle.pg_logic.specs.Signature.{Function}
 use Rattle.pg_logic.specs.Declarations.{function_of}
-use Rattle.pg_logic.specs.Run.{Outcome, Got, Over, Spent, then_run, use_one, Runs, run, run_all, run_recursed, run_applied, runs_from, runs_of}
+use Rattle.pg_logic.specs.Run.{Outcome, Got, Over, Spent, then_run, use_one, Runs, run, run_recursed, run_applied, runs_from, runs_of}
 use Rattle.pg_arith.specs.declared.values.ValueFault.{ValueFault}
 use Rattle.pg_arith.specs.declared.values.ValueFault.TheVariants.{OverLimit, OverBudget, OutOfMemory}
 use Rattle.pg_logic.specs.Value.{value, functions_of}
 use Rattle.pg_logic.proofs.Running.{Is, run-value}
 use Rattle.pg_arith.specs.declared.signature.Function as declared
 use Rattle.pg_arith.specs.View.{function, plain_functions}
-use Rattle.pg_arith.specs.Outcomes.{answer, Answers, Leaves, IsUndeclared, IsDeclaredAt}
+use Rattle.pg_arith.specs.Outcomes.{Answers, Leaves, IsUndeclared, IsDeclaredAt}
 
 -- later declarations change nothing
 runs_from-below : (fs : List Function) (R : Runs) (limit k i : ℕ) (xs : List ℕ) (left : ℕ) → i < k → runs_from R limit k fs i xs left ≡ R i xs left

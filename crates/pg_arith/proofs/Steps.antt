@@ -1,5 +1,5 @@
 -- The steps of a term run as the term does.
-use Rattle.std.proofs.Common.{◌≡◌, ℕ, ◌+◌, ◌-◌, List, [], ◌∷◌, ◌++◌, length, take, drop, get_or, refl, arith, ap, sym, ◌∙◌, subst, append-nil, append_assoc, length-append}
+use Rattle.std.proofs.Common.{◌≡◌, ℕ, ◌+◌, ◌-◌, List, [], ◌∷◌, ◌++◌, length, take, drop, refl, arith, ap, sym, ◌∙◌, subst, append-nil, append_assoc, length-append}
 use Rattle.std.specs.Prelude.{Result, Ok, Err, IsErr, IsErrAnd, MatchResult, slice_index}
 use Rattle.std.proofs.lemmas.Bool.{false≢true}
 use Rattle.std.proofs.Math.Seq.{get_or-append_seam, take-append_seam, drop-append_seam}
@@ -7,7 +7,7 @@ use Rattle.pg_logic.specs.Tree.{Tm, free, bound, nought, succ, app, Tms, none, a
 use Rattle.pg_logic.specs.Signature.{count}
 use Rattle.pg_logic.specs.Run.{Outcome, Got, Over, Spent, then_run, within, Runs, run, run_all}
 use Rattle.pg_arith.specs.declared.postfix.Step.{Step}
-use Rattle.pg_arith.specs.declared.postfix.Step.TheVariants.{Variable, Zero, AddOne, Apply}
+use Rattle.pg_arith.specs.declared.postfix.Step.TheVariants.{AddOne, Apply}
 use Rattle.pg_arith.specs.declared.values.ValueFault.{ValueFault}
 use Rattle.pg_arith.specs.declared.values.ValueFault.TheVariants.{OverLimit, OverBudget, OutOfMemory}
 use Rattle.pg_arith.specs.Outcomes.{Answers}

@@ -596,7 +596,10 @@ fn the_fault_that_comes_first_is_told(rt: HostRuntime) {
     assert_eq!(rt; sum_value(alloc, 1, 1, 1, 1), Err(ValueFault::OverBudget));
     assert_eq!(rt; sum_value(alloc, 1, 1, 1, 2), over(2));
     assert_eq!(rt; sum_value(alloc, 1, 1, 0, 0), over(1));
-    assert_eq!(rt; mixed_values(alloc), Ok([Err(ValueFault::OverBudget), over(2)]));
+    assert_eq!(rt;
+        mixed_values(alloc),
+        Ok([Err(ValueFault::OverBudget), over(2)])
+    );
 }
 
 #[test]

@@ -12,7 +12,7 @@ ghost use Rattle.pg_arith.specs.View.{function, plain_functions, signature};
 ghost use Rattle.pg_arith.specs.Postfix.{postfix, run_step};
 ghost use Rattle.pg_arith.specs.Outcomes.{Answers, Leaves, IsUndeclared, IsDeclaredAt};
 
-use crate::postfix::{flatten, Step};
+use crate::postfix::{Step, flatten};
 use crate::signature::{Function, Recursion, Signature};
 use pg_terms::Term;
 use sqlite_items::{Items, at};
@@ -68,12 +68,7 @@ fn spend(left: &mut u64) -> Result<(), ValueFault>
 }
 
 /// The values of a step's variables: the arguments but the last, the predecessor, the value there.
-fn step_variables(
-    alloc: Global,
-    front: &[u64],
-    m: u64,
-    v: u64,
-) -> Result<Items<u64>, AllocError>
+fn step_variables(alloc: Global, front: &[u64], m: u64, v: u64) -> Result<Items<u64>, AllocError>
     ensures { IfOk result (λ vs. vs ≡ front.now ++ m ∷ v ∷ []) }
 {
     let mut values = Items::from_slice(alloc, front)?;
@@ -87,11 +82,7 @@ fn number_at(numbers: &[u64], at: usize) -> u64
     ensures value { result ≡ slice_index numbers.now at }
     ensures small { (limit : ℕ) → All (λ v. v ≤ limit) numbers.now → result ≤ limit }
 {
-    if at < numbers.len() {
-        numbers[at]
-    } else {
-        0
-    }
+    if at < numbers.len() { numbers[at] } else { 0 }
 }
 
 /// The first `n` numbers, or all of them.
