@@ -1,16 +1,14 @@
 -- Lists of arguments, of declarations and of numbers, a piece at a time.
 use Rattle.std.proofs.Common.{◌≡◌, ℕ, ◌+◌, ◌-◌, ◌<◌, List, [], ◌∷◌, ◌++◌, length, zero, get_or, drop, take, map, Bool, true, false, ◌&&◌, suc, refl, arith, ap, ◌∙◌, sym, append-nil, length-append}
-use Rattle.std.specs.Prelude.{Option, Some, None, option_map, slice_get}
 use Rattle.std.specs.Option.{option_or}
-use Rattle.std.proofs.Math.Seq.{drop-cons}
 use Rattle.std.proofs.lemmas.List.Folds.{list_any-append}
 use Rattle.std.proofs.lemmas.Option.{slice_get-map}
 use Rattle.pg_logic.specs.Tree.{Tm, bound, Fm, all}
 use Rattle.pg_logic.specs.Signature.{count}
 use Rattle.pg_logic.specs.Axioms.{quantified, binders}
-use Rattle.pg_logic.specs.Declarations.{Name, first, unless_true}
+use Rattle.pg_logic.specs.Declarations.{Name, first}
 use Rattle.pg_terms.specs.declared.term.Term.{Term}
-use Rattle.pg_terms.specs.View.{term, args}
+use Rattle.pg_terms.specs.View.{args}
 
 pub count_args : (ts : List Term) → count (args ts) ≡ length ts
 count_args [] = refl

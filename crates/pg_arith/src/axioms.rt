@@ -1,12 +1,14 @@
 //! The axioms of a signature, in their order: two of the numbers, then the equations of the
 //! functions in order of declaration.
 
-ghost use Rattle.std.specs.Prelude.{◌≡◌, ℕ, ◌+◌, ◌-◌, ◌^◌, ◌<◌, ◌≤◌, [], ◌++◌, ◌∷◌, length, take, slice_get, option_map, Some, IfOk, IfSome, MatchOption};
+ghost use Rattle.std.specs.Prelude.{◌≡◌, ℕ, ◌+◌, ◌-◌, ◌^◌, ◌<◌, ◌≤◌, [], ◌++◌, ◌∷◌, length, take, true, slice_get, option_map, Some, IfOk, IfSome, MatchOption};
 ghost use Rattle.pg_logic.specs.Axioms as logic;
 ghost use Rattle.pg_logic.specs.Declarations.{HasParameters};
+ghost use Rattle.pg_logic.specs.Signature.{fits};
 ghost use Rattle.pg_logic.specs.Tree as tree;
+ghost use Rattle.pg_logic.specs.Truth.{IsTrueOf};
 ghost use Rattle.pg_terms.specs.View.{term, terms, args, formula};
-ghost use Rattle.pg_arith.specs.View.{function, functions, declarations};
+ghost use Rattle.pg_arith.specs.View.{function, functions, declarations, signature};
 
 use crate::signature::{Constant, Function, Recursion, Signature};
 use pg_terms::{Formula, Name, Term};
@@ -297,17 +299,28 @@ impl Signature {
         }
     }
 
-    /// The axiom of this number, which is below their count. It fails only for want of memory.
+    /// The axiom of this number, which is below their count. It has no free variable and is true. It
+    /// fails only for want of memory.
     pub fn axiom(&self, alloc: Global, id: u32) -> Result<Formula, AllocError>
+        requires { id < length (logic.axioms (declarations self.now)) }
+        ensures closed { IfOk result (λ a. fits (signature self.now) 0 0 (formula a) ≡ true) }
+        ensures truth { IfOk result (λ a. IsTrueOf (signature self.now) [] (formula a)) }
+        ensures exact { IfOk result (λ a. option_map (λ x. x.says) (slice_get (logic.axioms (declarations self.now)) id) ≡ Some (formula a)) }
+    {
+        self.is_declared();
+        Ok(self.axiom_of(alloc, id)?.into_inner())
+    }
+
+    /// The axiom of this number.
+    fn axiom_of(&self, alloc: Global, id: u32) -> Result<Boxed<Formula>, AllocError>
         requires { id < length (logic.axioms (declarations self.now)) }
         ensures { IfOk result (λ a. option_map (λ x. x.says) (slice_get (logic.axioms (declarations self.now)) id) ≡ Some (formula a)) }
     {
-        let a = match id {
-            0 => succ_inj(alloc)?,
-            1 => zero_ne_succ(alloc)?,
-            _ => self.equation(alloc, id - 2)?,
-        };
-        Ok(a.into_inner())
+        match id {
+            0 => succ_inj(alloc),
+            1 => zero_ne_succ(alloc),
+            _ => self.equation(alloc, id - 2),
+        }
     }
 
     /// The equation of this number, of all equations of functions in order.

@@ -1,6 +1,6 @@
 //! Laws of truth in the standard model, of every signature.
 
-ghost use Rattle.pg_arith.specs.Laws.{AxiomLaw, ClassicalLaw, OpeningLaw};
+ghost use Rattle.pg_arith.specs.Laws.{AxiomLaw, ClassicalLaw, LongerLaw, OpeningLaw, SubstitutedLaw};
 
 /// A formula opened by a term is true where its body is, with the term's value for the loose bound
 /// variable.
@@ -16,4 +16,16 @@ pub fn classical_law()
 /// Each axiom is true.
 pub fn axiom_law()
     ensures { AxiomLaw }
+{}
+
+/// Where a formula fits so many free variables, numbers for further ones change nothing of its truth.
+pub fn longer_law()
+    ensures { LongerLaw }
+{}
+
+/// A formula with terms for its free variables is true where the formula itself is, with the values
+/// of these terms for the variables. It fits as many variables as there are terms, and these have
+/// no loose bound variable.
+pub fn substituted_law()
+    ensures { SubstitutedLaw }
 {}

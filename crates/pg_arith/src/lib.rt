@@ -8,9 +8,12 @@ mod declaring;
 mod fitting;
 pub mod laws;
 mod lookups;
+mod postfix;
 mod signature;
 #[cfg(test)]
 mod tests;
+mod values;
 
 pub use declaring::DeclareFault;
 pub use signature::Signature;
+pub use values::ValueFault;

@@ -1,6 +1,6 @@
 // The signature of a game with an addition, a numeral and an order.
 
-use crate::{DeclareFault, Signature};
+use crate::{DeclareFault, Signature, ValueFault};
 use pg_terms::{Formula, Name, Term};
 use sqlite_items::{Boxed, Items};
 use std::alloc::{AllocError, Global};
@@ -505,4 +505,119 @@ fn numbers_and_arities_decide_what_fits(rt: HostRuntime) {
     assert_eq!(rt; fits(alloc, Simple::Bound(0)), Ok([false, true, false]));
     assert_eq!(rt; fits(alloc, Simple::Free(0)), Ok([false, false, true]));
     assert_eq!(rt; fits(alloc, Simple::Call(0)), Ok([false, false, false]));
+}
+
+// ---- values
+
+/// The game with `a * 0 = 0` and `a * succ d = a * d + a`.
+fn arithmetic(alloc: Global) -> Result<Signature, DeclareFault> {
+    let mut sig = game(alloc)?;
+    let step = plus(alloc, Term::Free(2), Term::Free(0))?;
+    let base = leaf(alloc, Term::Zero)?;
+    function(
+        &mut sig,
+        alloc,
+        ["*", "mul_zero", "mul_succ"],
+        2,
+        base,
+        step,
+    )?;
+    Ok(sig)
+}
+
+/// The value over that game, by its limit and its budget.
+fn value(alloc: Global, t: &Term, limit: u32, budget: u64) -> Result<u64, ValueFault> {
+    match arithmetic(alloc) {
+        Ok(sig) => sig.value_of_closed(alloc, t, u64::from(limit), budget),
+        Err(_) => Err(ValueFault::OutOfMemory),
+    }
+}
+
+fn numeral(alloc: Global, n: u32) -> Result<Boxed<Term>, AllocError> {
+    let mut t = leaf(alloc, Term::Zero)?;
+    for _ in 0..n {
+        t = succ(alloc, t)?;
+    }
+    Ok(t)
+}
+
+/// The value of `m + n`.
+fn sum_value(alloc: Global, m: u32, n: u32, limit: u32, budget: u64) -> Result<u64, ValueFault> {
+    let left = numeral(alloc, m)?;
+    let t = sum(alloc, left, numeral(alloc, n)?)?;
+    value(alloc, t.get(), limit, budget)
+}
+
+/// The value of `2 * 2`.
+fn product_value(alloc: Global, limit: u32, budget: u64) -> Result<u64, ValueFault> {
+    let mut arguments = Items::new(alloc);
+    arguments.push(numeral(alloc, 2)?.into_inner())?;
+    arguments.push(numeral(alloc, 2)?.into_inner())?;
+    let t = Boxed::new(alloc, Term::App(2, arguments))?;
+    value(alloc, t.get(), limit, budget)
+}
+
+/// The value of the constant `1`.
+fn one_value(alloc: Global, limit: u32, budget: u64) -> Result<u64, ValueFault> {
+    let t = call(alloc, 1)?;
+    value(alloc, t.get(), limit, budget)
+}
+
+/// The values of `1 + 2` and `2 + 1`, where `1` is the constant and `2` a numeral.
+fn mixed_values(alloc: Global) -> Result<[Result<u64, ValueFault>; 2], AllocError> {
+    let left = call(alloc, 1)?;
+    let t = sum(alloc, left, numeral(alloc, 2)?)?;
+    let first = value(alloc, t.get(), 1, 0);
+    let left = numeral(alloc, 2)?;
+    let t = sum(alloc, left, call(alloc, 1)?)?;
+    Ok([first, value(alloc, t.get(), 1, 0)])
+}
+
+const fn over(reached: u64) -> Result<u64, ValueFault> {
+    Err(ValueFault::OverLimit { reached })
+}
+
+#[test]
+fn one_and_one_is_two_by_two_uses(rt: HostRuntime) {
+    let alloc = rt.alloc();
+    for (limit, budget, want) in [
+        (200, 100, Ok(2)),
+        (2, 2, Ok(2)),
+        (200, 1, Err(ValueFault::OverBudget)),
+        (1, 100, over(2)),
+    ] {
+        assert_eq!(rt; sum_value(alloc, 1, 1, limit, budget), want);
+    }
+}
+
+#[test]
+fn the_fault_that_comes_first_is_told(rt: HostRuntime) {
+    let alloc = rt.alloc();
+    assert_eq!(rt; sum_value(alloc, 1, 1, 1, 1), Err(ValueFault::OverBudget));
+    assert_eq!(rt; sum_value(alloc, 1, 1, 1, 2), over(2));
+    assert_eq!(rt; sum_value(alloc, 1, 1, 0, 0), over(1));
+    assert_eq!(rt;
+        mixed_values(alloc),
+        Ok([Err(ValueFault::OverBudget), over(2)])
+    );
+}
+
+#[test]
+fn a_constant_and_a_function_at_zero_take_one_use(rt: HostRuntime) {
+    let alloc = rt.alloc();
+    assert_eq!(rt; one_value(alloc, 1, 1), Ok(1));
+    assert_eq!(rt; one_value(alloc, 1, 0), Err(ValueFault::OverBudget));
+    assert_eq!(rt; one_value(alloc, 0, 1), over(1));
+    assert_eq!(rt; sum_value(alloc, 3, 0, 3, 1), Ok(3));
+    assert_eq!(rt; sum_value(alloc, 3, 0, 3, 0), Err(ValueFault::OverBudget));
+    assert_eq!(rt; sum_value(alloc, 0, 0, 0, 1), Ok(0));
+}
+
+#[test]
+fn two_by_two_takes_nine_uses(rt: HostRuntime) {
+    let alloc = rt.alloc();
+    assert_eq!(rt; product_value(alloc, 4, 9), Ok(4));
+    assert_eq!(rt; product_value(alloc, 4, 8), Err(ValueFault::OverBudget));
+    assert_eq!(rt; product_value(alloc, 3, 9), over(4));
+    assert_eq!(rt; product_value(alloc, 3, 8), Err(ValueFault::OverBudget));
 }
