@@ -1,1 +1,4 @@
-pub mod Reflexivity
+pub mod Axioms
+pub mod Given
+pub mod Naming
+pub mod Unfolds
