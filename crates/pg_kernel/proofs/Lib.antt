@@ -1,3 +1,4 @@
+pub mod Admitted
 pub mod Axioms
 pub mod Given
 pub mod Naming

@@ -32,9 +32,11 @@ each_named Q (andr a p) h = each_named Q p h
 each_named Q (orl p) h = each_named Q p h
 each_named Q (orr p) h = each_named Q p h
 each_named Q (ore a b p q r) h =
-    let both = left Q (λ k. is_named k p || is_named k q) (λ k. is_named k r) h in
-    (each_named Q p (left Q (λ k. is_named k p) (λ k. is_named k q) both), each_named Q q (right Q (λ k. is_named k p) (λ k. is_named k q) both),
-    each_named Q r (right Q (λ k. is_named k p || is_named k q) (λ k. is_named k r) h))
+    let both = left Q (λ k. is_named k p || is_named k q) (λ k. is_named k r) h in (
+      each_named Q p (left Q (λ k. is_named k p) (λ k. is_named k q) both),
+      each_named Q q (right Q (λ k. is_named k p) (λ k. is_named k q) both),
+      each_named Q r (right Q (λ k. is_named k p || is_named k q) (λ k. is_named k r) h),
+    )
 each_named Q (impi p) h = each_named Q p h
 each_named Q (impe a p q) h = (each_named Q p (left Q (λ k. is_named k p) (λ k. is_named k q) h), each_named Q q (right Q (λ k. is_named k p) (λ k. is_named k q) h))
 each_named Q (fale p) h = each_named Q p h

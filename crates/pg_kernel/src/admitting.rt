@@ -13,9 +13,9 @@ ghost use Rattle.pg_kernel.specs.View.{proof};
 ghost use Rattle.pg_kernel.specs.Admission.{Accepts, IsAdmitted};
 
 use crate::checking::{Verdict, check};
+use crate::named::names_of;
 use crate::proof::Proof;
 use crate::theorems::Theorems;
-use crate::named::names_of;
 use pg_arith::Signature;
 use pg_terms::Formula;
 use sqlite_items::{Boxed, Items};
@@ -86,6 +86,7 @@ fn examined(
     requires { IsTrue (arith.fits (signature sig.now) 0 0 (formula goal.now)) }
     ensures some { IfOk result (λ o. IfSome o (λ names. AreNames (proof p.now) names × Accepts (signature sig.now) (formulas theorems.now) (proof p.now) (formula goal.now))) }
     ensures none { IfOk result (λ o. IfNone o (Accepts (signature sig.now) (formulas theorems.now) (proof p.now) (formula goal.now) → ⊥)) }
+    ensures sound { IfOk result (λ o. IfSome o (λ names. ((k : ℕ) → IsTrue (is_named k (proof p.now)) → IsTheorem (signature sig.now) (formulas theorems.now) k) → IsTrueOf (signature sig.now) [] (formula goal.now))) }
 {
     match check(alloc, sig, theorems, 0, &[], p, goal)? {
         Verdict::Accepted => Ok(Some(names_of(alloc, p)?)),
@@ -109,7 +110,6 @@ pub fn admit(
     // the goal is true where each theorem that the proof names fits no variable and is true
     ensures sound { IfOk result (λ o. IfSome o (λ c. ((k : ℕ) → IsTrue (is_named k (view.proof c.1)) → IsTheorem (signature sig.now) (formulas theorems.now) k) → IsTrueOf (signature sig.now) [] (formula c.0))) }
 {
-    sig.is_declared();
     let (goal, proof) = boxed(alloc, goal, proof)?;
     match examined(alloc, sig, theorems, goal.get(), proof.get())? {
         Some(names) => Ok(Some(Checked { goal, proof, names })),

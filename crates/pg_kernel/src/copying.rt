@@ -93,11 +93,7 @@ fn one(alloc: Global, p: &Proof) -> Result<Boxed<Proof>, AllocError>
 
 /// The proofs of two premises.
 #[cycle(copy)]
-fn two(
-    alloc: Global,
-    p: &Proof,
-    q: &Proof,
-) -> Result<(Boxed<Proof>, Boxed<Proof>), AllocError>
+fn two(alloc: Global, p: &Proof, q: &Proof) -> Result<(Boxed<Proof>, Boxed<Proof>), AllocError>
     ensures { IfOk result (λ r. r ≡ (p.now, q.now)) }
 {
     let p = one(alloc, p)?;

@@ -11,9 +11,8 @@ mod proof;
 mod rules;
 mod theorems;
 
-
 pub use admitting::{Checked, admit};
 pub use checking::{Verdict, check};
+pub use named::uses;
 pub use proof::Proof;
 pub use theorems::Theorems;
-pub use named::uses;

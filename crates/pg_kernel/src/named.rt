@@ -75,13 +75,21 @@ pub fn uses(alloc: Global, p: &Proof) -> Result<BTreeSet<u32>, AllocError>
     Ok(names)
 }
 
-/// The same as a list.
+/// The numbers of a set, ascending.
+fn listed(alloc: Global, set: &BTreeSet<u32>) -> Result<Items<u32>, AllocError>
+    ensures { IfOk result (λ numbers. numbers ≡ set.now.keys) }
+{
+    let mut numbers = Items::new(alloc);
+    for k in set {
+        numbers.push(*k)?;
+    }
+    Ok(numbers)
+}
+
+/// The theorem numbers that a proof names, as a list.
 pub fn names_of(alloc: Global, p: &Proof) -> Result<Items<u32>, AllocError>
     ensures { IfOk result (λ names. AreNames (proof p.now) names) }
 {
-    let mut names = Items::new(alloc);
-    for k in &uses(alloc, p)? {
-        names.push(*k)?;
-    }
-    Ok(names)
+    let set = uses(alloc, p)?;
+    listed(alloc, &set)
 }

@@ -7,6 +7,7 @@ use Rattle.pg_kernel.proofs.theorems.Theorems.new.Goals as goal
 pub loop-id-preserved : goal.loop-id-preserved
 loop-id-preserved c =
     let a = c.in_ok-axiom.field-0 in
-    let added = c.in_ok-push.ensures.ok in
-    (one_more (axioms (declarations c.args.sig.now)) c.loop-id.id c.loop-id.formulas c.push.new.self a added c.loop-id.invariant.0 c.in_ok-axiom.ensures,
-    omega (arith, ap length added, length-append c.loop-id.formulas (a ∷ []), c.loop-id.invariant.1))
+    let added = c.in_ok-push.ensures.ok in (
+      one_more (axioms (declarations c.args.sig.now)) c.loop-id.id c.loop-id.formulas c.push.new.self a added c.loop-id.invariant.0 c.in_ok-axiom.ensures,
+      omega (arith, ap length added, length-append c.loop-id.formulas (a ∷ []), c.loop-id.invariant.1),
+    )
