@@ -1,14 +1,11 @@
--- Equations of numerals, and what the kernel says of their proof by reflexivity.
+-- Equations of numerals: they fit every signature, and their sides differ in value where they differ.
 use Rattle.std.proofs.Common.{◌≡◌, ℕ, List, [], Bool, true, false, ◌&&◌, IsTrue, refl, ap, sym, ◌∙◌, subst}
 use Rattle.std.proofs.lemmas.Bool.{false≢true, true≢false, and_parts, and_from}
 use Rattle.pg_logic.specs.Tree.{Tm, free, bound, nought, succ, app, Fm, falsum, eq, pred, and, or, imp, all, ex}
 use Rattle.pg_logic.specs.Signature.{Signature, Function, fits, fits_term}
-use Rattle.pg_logic.specs.Kernel.{unless, is_reflexive}
+use Rattle.pg_logic.specs.Kernel.{is_reflexive}
 use Rattle.pg_logic.specs.Numeral.{is_numeral, is_numeral_equation, SidesHaveOneValue}
 use Rattle.pg_logic.proofs.Numerals.{sides-reflexive}
-use Rattle.pg_kernel.specs.Checks.{verdict_of}
-use Rattle.pg_kernel.specs.declared.checking.Verdict.{Verdict}
-use Rattle.pg_kernel.specs.declared.checking.Verdict.TheVariants.{Accepted, Refused}
 
 -- a numeral fits every signature
 numeral-fits : (fs : List Function) (t : Tm) → is_numeral t ≡ true → fits_term fs 0 0 t ≡ true
@@ -28,19 +25,6 @@ equation-fits s (or a b) h = absurd (false≢true h)
 equation-fits s (imp a b) h = absurd (false≢true h)
 equation-fits s (all x a) h = absurd (false≢true h)
 equation-fits s (ex x a) h = absurd (false≢true h)
-
-abbrev is_accepted : Verdict → Bool
-is_accepted Accepted = true
-is_accepted (Refused node rule) = false
-
--- the verdict on the proof by reflexivity of an equation
-pub accepted-true : (v : Verdict) (b : Bool) → v ≡ Accepted → v ≡ verdict_of (unless b 0 17) → true ≡ b
-accepted-true v true is given = refl
-accepted-true v false is given = ap is_accepted (sym is ∙ given)
-
-pub refused-false : (v : Verdict) (b : Bool) (node rule : ℕ) → v ≡ Refused node rule → v ≡ verdict_of (unless b 0 17) → false ≡ b
-refused-false v true node rule is given = ap is_accepted (sym is ∙ given)
-refused-false v false node rule is given = refl
 
 -- where the sides differ they have two values
 pub sides-differ : (a : Fm) → false ≡ is_reflexive a → IsTrue (is_numeral_equation a) → SidesHaveOneValue a → ⊥

@@ -51,11 +51,7 @@ fn is_reflexive(alloc: Global, target: &Formula) -> Result<bool, AllocError>
 ///
 /// The empty script leaves the goal open. `rfl` closes it exactly where the two sides are the same
 /// term, which is where they have one value, and stops else. It fails only for want of memory.
-pub fn run_first(
-    alloc: Global,
-    target: &Formula,
-    script: &FirstScript,
-) -> Result<First, AllocError>
+pub fn run_first(alloc: Global, target: &Formula, script: &FirstScript) -> Result<First, AllocError>
     requires numerals { IsTrue (is_numeral_equation (formula target.now)) }
     ensures exact { IfOk result (λ end. end ≡ first_run script.now (formula target.now)) }
     // the kernel accepts the proof of a closed goal
