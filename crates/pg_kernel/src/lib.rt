@@ -9,6 +9,8 @@ mod named;
 mod premise;
 mod proof;
 mod rules;
+#[cfg(test)]
+mod tests;
 mod theorems;
 
 pub use admitting::{Checked, admit};
