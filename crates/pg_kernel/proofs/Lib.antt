@@ -1,1 +1,5 @@
-pub mod Reflexivity
+pub mod Admitted
+pub mod Axioms
+pub mod Given
+pub mod Naming
+pub mod Unfolds

@@ -1,2 +1,5 @@
-pub mod Verdicts
+pub mod Admission
+pub mod Checks
+pub mod Names
+pub mod Premises
 pub mod View

@@ -1,52 +1,331 @@
-ghost use Rattle.std.specs.Prelude.{◌≡◌, ℕ, List, []};
-ghost use Rattle.pg_logic.specs.Kernel.{fault_of, unless, is_reflexive};
-ghost use Rattle.pg_logic.specs.Numeral.{no_declarations};
-ghost use Rattle.pg_logic.specs.Signature.{Signature};
-ghost use Rattle.pg_logic.specs.Truth.{IsTrueOf};
-ghost use Rattle.pg_terms.specs.View.{formula};
-ghost use Rattle.pg_kernel.specs.View.{proof_of};
-ghost use Rattle.pg_kernel.specs.Verdicts.{verdict_of};
+//! The check of a proof against a goal.
 
+ghost use Rattle.std.specs.Prelude.{◌≡◌, ◌+◌, ◌-◌, ◌^◌, ◌++◌, min, ℕ, if◌then◌else◌, slice_get, option_map, IfOk, IsTrue};
+ghost use Rattle.pg_logic.specs.Kernel as logic;
+ghost use Rattle.pg_logic.specs.Signature as arith;
+ghost use Rattle.pg_logic.specs.Sound.{AllFit, IsTheorem, Entails};
+ghost use Rattle.pg_terms.specs.View.{formula, formulas};
+ghost use Rattle.pg_arith.specs.View.{signature};
+ghost use Rattle.pg_kernel.specs.Checks as checks;
+ghost use Rattle.pg_kernel.specs.Checks.{Gives};
+ghost use Rattle.pg_kernel.specs.Names.{is_named};
+ghost use Rattle.pg_kernel.specs.Premises.{premise, pair, triple, extra_of};
+ghost use Rattle.pg_kernel.specs.View.{proof};
+
+use crate::premise::{Context, Premise};
 use crate::proof::Proof;
+use crate::theorems::Theorems;
+use crate::{goals, rules};
+use pg_arith::Signature;
 use pg_terms::Formula;
+use sqlite_items::{Items, at};
+use std::alloc::{AllocError, Global};
 
-/// The kernel's answer about a proof.
+/// What a check says: accepted, or the first node in preorder that fails its rule.
 #[derive(Clone, Copy, Debug, PartialEq, Eq)]
 pub enum Verdict {
-    /// Every node meets the condition of its rule.
     Accepted,
-    /// The first node in preorder that fails the condition of its rule, with its rule. Nodes are
-    /// counted from 0, and the count stays at the type's end.
     Refused { node: u32, rule: u8 },
 }
 
-/// Whether a proof proves a goal over the empty signature, with no theorems and no hypotheses.
-///
-/// It takes no memory. It is `Refused` exactly where a node fails its rule: reflexivity, rule 17,
-/// asks that the goal is an equation whose two sides are the same term.
-pub fn check_first(proof: &Proof, goal: &Formula) -> Verdict
-    ensures exact { result ≡ verdict_of
-        (fault_of no_declarations [] (proof_of proof.now) 0 [] (formula goal.now) 0) }
-    // what is accepted is true, whatever is declared and whatever values the free variables have
-    ensures sound { result ≡ Verdict.Accepted →
-        (s : Signature) (free : List ℕ) → IsTrueOf s free (formula goal.now) }
+/// The number of this node, and one more for the next.
+fn enter(node: &mut u32) -> u32
+    ensures number { result ≡ node.old }
+    ensures next { node.new ≡ min (node.old + 1) (2 ^ 32 - 1) }
 {
-    match proof {
-        Proof::Refl => check_refl(goal),
+    let at = *node;
+    *node = at.saturating_add(1);
+    at
+}
+
+/// A node with no premise.
+fn settled(at: u32, holds: bool, rule: u8) -> Verdict
+    ensures { result ≡ (if holds then Verdict.Accepted else Verdict.Refused at rule) }
+{
+    if holds {
+        Verdict::Accepted
+    } else {
+        Verdict::Refused { node: at, rule }
     }
 }
 
-/// Rule 17, at node 0.
-fn check_refl(goal: &Formula) -> Verdict
-    ensures { result ≡ verdict_of (unless (is_reflexive (formula goal.now)) 0 17) }
+fn is_at(all: &[Formula], i: u32, goal: &Formula) -> bool
+    ensures { result ≡ logic.is_at (slice_get (formulas all.now) i) (formula goal.now) }
 {
-    let reflexive = match goal {
-        Formula::Eq(s, t) => s.same(t),
-        _ => false,
-    };
-    if reflexive {
-        Verdict::Accepted
-    } else {
-        Verdict::Refused { node: 0, rule: 17 }
+    match at(all, i as usize) {
+        None => false,
+        Some(a) => a.same(goal),
     }
+}
+
+#[cycle(check)]
+fn fault(
+    p: &Proof,
+    cx: &Context<'_>,
+    vars: u32,
+    hyps: &mut Items<Formula>,
+    node: &mut u32,
+    goal: &Formula,
+) -> Result<Verdict, AllocError>
+    ensures checks { IfOk result (λ v. Gives (logic.fault_of (signature cx.now.sig.now) (formulas cx.now.theorems.now) (proof p.now) vars (formulas hyps.old) (formula goal.now)) (logic.steps (proof p.now)) node.old node.new v) }
+    ensures kept { IfOk result (λ _. hyps.new ≡ hyps.old) }
+{
+    let at = enter(node);
+    match p {
+        Proof::Hyp(i) => Ok(settled(at, is_at(hyps.as_slice(), *i, goal), 1)),
+        Proof::Thm(i) => Ok(settled(at, is_at(cx.theorems, *i, goal), 2)),
+        Proof::Andi(p, q) => fault_two(
+            p.get(),
+            q.get(),
+            cx,
+            hyps,
+            at,
+            node,
+            3,
+            rules::andi(cx, vars, goal)?,
+        ),
+        Proof::Andl(b, p) => fault_one(
+            p.get(),
+            cx,
+            hyps,
+            at,
+            node,
+            4,
+            rules::andl(cx, vars, b, goal)?,
+        ),
+        Proof::Andr(a, p) => fault_one(
+            p.get(),
+            cx,
+            hyps,
+            at,
+            node,
+            5,
+            rules::andr(cx, vars, a, goal)?,
+        ),
+        Proof::Orl(p) => fault_one(p.get(), cx, hyps, at, node, 6, rules::orl(cx, vars, goal)?),
+        Proof::Orr(p) => fault_one(p.get(), cx, hyps, at, node, 7, rules::orr(cx, vars, goal)?),
+        Proof::Ore(a, b, p, q, r) => {
+            let premises = rules::ore(cx, vars, a, b, goal)?;
+            fault_three(p.get(), q.get(), r.get(), cx, hyps, at, node, 8, premises)
+        }
+        Proof::Impi(p) => fault_one(p.get(), cx, hyps, at, node, 9, rules::impi(cx, vars, goal)?),
+        Proof::Impe(a, p, q) => fault_two(
+            p.get(),
+            q.get(),
+            cx,
+            hyps,
+            at,
+            node,
+            10,
+            rules::impe(cx, vars, a, goal)?,
+        ),
+        Proof::Fale(p) => fault(p.get(), cx, vars, hyps, node, &Formula::Falsum),
+        Proof::Lem => Ok(settled(at, goals::is_middle(goal), 12)),
+        Proof::Alli(p) => fault_one(
+            p.get(),
+            cx,
+            hyps,
+            at,
+            node,
+            13,
+            rules::alli(cx, vars, goal)?,
+        ),
+        Proof::Alle(a, t, p) => fault_one(
+            p.get(),
+            cx,
+            hyps,
+            at,
+            node,
+            14,
+            rules::alle(cx, vars, a, t, goal)?,
+        ),
+        Proof::Exi(t, p) => fault_one(
+            p.get(),
+            cx,
+            hyps,
+            at,
+            node,
+            15,
+            rules::exi(cx, vars, t, goal)?,
+        ),
+        Proof::Exe(a, p, q) => fault_two(
+            p.get(),
+            q.get(),
+            cx,
+            hyps,
+            at,
+            node,
+            16,
+            rules::exe(cx, vars, a, goal)?,
+        ),
+        Proof::Refl => Ok(settled(at, goals::is_reflexive(goal), 17)),
+        Proof::Repl(a, s, t, p, q) => {
+            let premises = rules::repl(cx, vars, a, s, t, goal)?;
+            fault_two(p.get(), q.get(), cx, hyps, at, node, 18, premises)
+        }
+        Proof::Ind(a, t, p, q) => {
+            let premises = rules::ind(cx, vars, a, t, goal)?;
+            fault_two(p.get(), q.get(), cx, hyps, at, node, 19, premises)
+        }
+        Proof::Predi(p) => fault_one(
+            p.get(),
+            cx,
+            hyps,
+            at,
+            node,
+            20,
+            rules::predi(cx, vars, goal)?,
+        ),
+        Proof::Prede(a, p) => fault_one(
+            p.get(),
+            cx,
+            hyps,
+            at,
+            node,
+            21,
+            rules::prede(cx, vars, a, goal)?,
+        ),
+    }
+}
+
+/// A node with one premise, or a false condition.
+#[cycle(check)]
+fn fault_one(
+    p: &Proof,
+    cx: &Context<'_>,
+    hyps: &mut Items<Formula>,
+    at: u32,
+    node: &mut u32,
+    rule: u8,
+    premises: Option<Premise>,
+) -> Result<Verdict, AllocError>
+    requires { node.old ≡ min (at + 1) (2 ^ 32 - 1) }
+    ensures checks { IfOk result (λ v. Gives (checks.one (signature cx.now.sig.now) (formulas cx.now.theorems.now) (formulas hyps.old) (proof p.now) rule (option_map premise premises)) (logic.steps (proof p.now) + 1) at node.new v) }
+    ensures kept { IfOk result (λ _. hyps.new ≡ hyps.old) }
+{
+    match premises {
+        None => Ok(Verdict::Refused { node: at, rule }),
+        Some(premise) => fault_premise(p, cx, hyps, node, premise),
+    }
+}
+
+/// A node with two.
+#[cycle(check)]
+fn fault_two(
+    p: &Proof,
+    q: &Proof,
+    cx: &Context<'_>,
+    hyps: &mut Items<Formula>,
+    at: u32,
+    node: &mut u32,
+    rule: u8,
+    premises: Option<(Premise, Premise)>,
+) -> Result<Verdict, AllocError>
+    requires { node.old ≡ min (at + 1) (2 ^ 32 - 1) }
+    ensures checks { IfOk result (λ v. Gives (checks.two (signature cx.now.sig.now) (formulas cx.now.theorems.now) (formulas hyps.old) (proof p.now) (proof q.now) rule (option_map pair premises)) (logic.steps (proof p.now) + logic.steps (proof q.now) + 1) at node.new v) }
+    ensures kept { IfOk result (λ _. hyps.new ≡ hyps.old) }
+{
+    match premises {
+        None => Ok(Verdict::Refused { node: at, rule }),
+        Some((first, second)) => match fault_premise(p, cx, hyps, node, first)? {
+            Verdict::Accepted => fault_premise(q, cx, hyps, node, second),
+            refused => Ok(refused),
+        },
+    }
+}
+
+/// A node with three.
+#[cycle(check)]
+fn fault_three(
+    p: &Proof,
+    q: &Proof,
+    r: &Proof,
+    cx: &Context<'_>,
+    hyps: &mut Items<Formula>,
+    at: u32,
+    node: &mut u32,
+    rule: u8,
+    premises: Option<(Premise, Premise, Premise)>,
+) -> Result<Verdict, AllocError>
+    requires { node.old ≡ min (at + 1) (2 ^ 32 - 1) }
+    ensures checks { IfOk result (λ v. Gives (checks.three (signature cx.now.sig.now) (formulas cx.now.theorems.now) (formulas hyps.old) (proof p.now) (proof q.now) (proof r.now) rule (option_map triple premises)) (logic.steps (proof p.now) + logic.steps (proof q.now) + logic.steps (proof r.now) + 1) at node.new v) }
+    ensures kept { IfOk result (λ _. hyps.new ≡ hyps.old) }
+{
+    match premises {
+        None => Ok(Verdict::Refused { node: at, rule }),
+        Some((first, second, third)) => match fault_premise(p, cx, hyps, node, first)? {
+            Verdict::Accepted => match fault_premise(q, cx, hyps, node, second)? {
+                Verdict::Accepted => fault_premise(r, cx, hyps, node, third),
+                refused => Ok(refused),
+            },
+            refused => Ok(refused),
+        },
+    }
+}
+
+/// A premise, in its own context.
+#[cycle(check)]
+fn fault_premise(
+    p: &Proof,
+    cx: &Context<'_>,
+    hyps: &mut Items<Formula>,
+    node: &mut u32,
+    given: Premise,
+) -> Result<Verdict, AllocError>
+    ensures checks { IfOk result (λ v. Gives (checks.at (signature cx.now.sig.now) (formulas cx.now.theorems.now) (formulas hyps.old) (proof p.now) (premise given)) (logic.steps (proof p.now)) node.old node.new v) }
+    ensures kept { IfOk result (λ _. hyps.new ≡ hyps.old) }
+{
+    let Premise { vars, extra, goal } = given;
+    match extra {
+        None => fault(p, cx, vars, hyps, node, goal.get()),
+        Some(extra) => {
+            hyps.push(extra.into_inner())?;
+            let verdict = fault(p, cx, vars, hyps, node, goal.get())?;
+            let _ = hyps.pop();
+            Ok(verdict)
+        }
+    }
+}
+
+fn checked(
+    alloc: Global,
+    sig: &Signature,
+    theorems: &Theorems,
+    vars: u32,
+    hyps: &[Formula],
+    p: &Proof,
+    goal: &Formula,
+) -> Result<Verdict, AllocError>
+    ensures { IfOk result (λ v. v ≡ checks.verdict_of (logic.fault_of (signature sig.now) (formulas theorems.now) (proof p.now) vars (formulas hyps.now) (formula goal.now) 0)) }
+{
+    let mut held = Items::new(alloc);
+    for a in hyps {
+        held.push(a.copied(alloc)?)?;
+    }
+    let cx = Context {
+        alloc,
+        sig,
+        theorems: theorems.as_slice(),
+    };
+    let mut node = 0;
+    fault(p, &cx, vars, &mut held, &mut node, goal)
+}
+
+/// Whether the proof proves the goal from the hypotheses, over so many variables.
+pub fn check(
+    alloc: Global,
+    sig: &Signature,
+    theorems: &Theorems,
+    vars: u32,
+    hyps: &[Formula],
+    p: &Proof,
+    goal: &Formula,
+) -> Result<Verdict, AllocError>
+    requires hyps { AllFit (signature sig.now) vars (formulas hyps.now) }
+    requires goal { IsTrue (arith.fits (signature sig.now) vars 0 (formula goal.now)) }
+    ensures exact { IfOk result (λ v. v ≡ checks.verdict_of (logic.fault_of (signature sig.now) (formulas theorems.now) (proof p.now) vars (formulas hyps.now) (formula goal.now) 0)) }
+    ensures sound { IfOk result (λ v. v ≡ Verdict.Accepted → ((k : ℕ) → IsTrue (is_named k (proof p.now)) → IsTheorem (signature sig.now) (formulas theorems.now) k) → Entails (signature sig.now) vars (formulas hyps.now) (formula goal.now)) }
+{
+    sig.is_declared();
+    checked(alloc, sig, theorems, vars, hyps, p, goal)
 }

@@ -1,10 +1,20 @@
 //! Formal proofs, and the kernel that checks them.
 #![tactic(auto)]
 
+mod admitting;
 mod checking;
+mod copying;
+mod goals;
+mod named;
+mod premise;
 mod proof;
+mod rules;
 #[cfg(test)]
 mod tests;
+mod theorems;
 
-pub use checking::{Verdict, check_first};
+pub use admitting::{Checked, admit};
+pub use checking::{Verdict, check};
+pub use named::uses;
 pub use proof::Proof;
+pub use theorems::Theorems;

@@ -3,8 +3,7 @@ use Rattle.std.specs.Prelude.{◌≡◌, [], None, if◌then◌else◌}
 use Rattle.pg_logic.specs.Tree.{Fm}
 use Rattle.pg_logic.specs.Kernel.{Pf, fault_of, is_reflexive}
 use Rattle.pg_logic.specs.Numeral.{no_declarations}
-use Rattle.pg_kernel.specs.declared.proof.Proof.{Proof}
-use Rattle.pg_kernel.specs.declared.proof.Proof.TheVariants.{Refl}
+use Rattle.pg_kernel.specs.declared.proof.Proof.{Proof, Refl}
 use Rattle.pg_tactic.specs.declared.first.FirstScript.{FirstScript}
 use Rattle.pg_tactic.specs.declared.first.FirstScript.TheVariants.{Empty, Rfl}
 use Rattle.pg_tactic.specs.declared.first.First.{First}

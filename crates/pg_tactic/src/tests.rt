@@ -1,23 +1,35 @@
 use crate::{First, FirstScript, run_first};
 use pg_terms::{Formula, Term};
-use std::test::Fail;
+use sqlite_items::Boxed;
+use std::alloc::{AllocError, Global};
 
-#[test]
-fn rfl_closes_two_equal_sides(rt: HostRuntime) -> Result<(), Fail> {
-    let alloc = rt.alloc();
-    let equal = Formula::Eq(
-        Term::succ(alloc, Term::Zero)?,
-        Term::succ(alloc, Term::Zero)?,
-    );
-    assert!(rt; matches!(run_first(&equal, &FirstScript::Rfl), First::Closed(_)));
-    assert!(rt; matches!(run_first(&equal, &FirstScript::Empty), First::Open));
-    Ok(())
+/// `succ 0 = t`.
+fn one_is(alloc: Global, t: Term) -> Result<Boxed<Formula>, AllocError> {
+    let t = Boxed::new(alloc, t)?;
+    let one = Term::succ(alloc, Term::Zero)?;
+    Boxed::new(alloc, Formula::Eq(one, t.into_inner()))
+}
+
+/// How a script ends on `succ 0 = succ 0`, or on `succ 0 = 0`.
+fn end(alloc: Global, equal: bool, script: FirstScript) -> Result<First, AllocError> {
+    let target = if equal {
+        one_is(alloc, Term::succ(alloc, Term::Zero)?)?
+    } else {
+        one_is(alloc, Term::Zero)?
+    };
+    run_first(alloc, target.get(), &script)
 }
 
 #[test]
-fn rfl_stops_on_two_different_sides(rt: HostRuntime) -> Result<(), Fail> {
-    let different = Formula::Eq(Term::succ(rt.alloc(), Term::Zero)?, Term::Zero);
-    assert!(rt; matches!(run_first(&different, &FirstScript::Rfl), First::SidesDiffer));
-    assert!(rt; matches!(run_first(&different, &FirstScript::Empty), First::Open));
-    Ok(())
+fn rfl_closes_two_equal_sides(rt: HostRuntime) {
+    let alloc = rt.alloc();
+    assert!(rt; matches!(end(alloc, true, FirstScript::Rfl), Ok(First::Closed(_))));
+    assert!(rt; matches!(end(alloc, true, FirstScript::Empty), Ok(First::Open)));
+}
+
+#[test]
+fn rfl_stops_on_two_different_sides(rt: HostRuntime) {
+    let alloc = rt.alloc();
+    assert!(rt; matches!(end(alloc, false, FirstScript::Rfl), Ok(First::SidesDiffer)));
+    assert!(rt; matches!(end(alloc, false, FirstScript::Empty), Ok(First::Open)));
 }

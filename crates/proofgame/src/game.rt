@@ -207,16 +207,17 @@ fn game_at(alloc: Global, symbols: &[Symbol]) -> Result<Option<Game>, AllocError
 }
 
 // The game, unless its sample does not close it.
-fn checked(game: Game) -> Option<Game>
-    ensures { MatchOption result
+fn checked(alloc: Global, game: Game) -> Result<Option<Game>, AllocError>
+    ensures { IfOk result (λ found. MatchOption found
         ((game.sample ≡ sample.Rfl) × (is_reflexive (formula game.target.formula) ≡ false))
-        (λ same. (same ≡ game) × (game.sample ≡ sample.Rfl → is_reflexive (formula game.target.formula) ≡ true)) }
+        (λ same. (same ≡ game) × (game.sample ≡ sample.Rfl → is_reflexive (formula game.target.formula) ≡ true))) }
 {
     match game.sample {
-        Sample::Sorry => Some(game),
-        Sample::Rfl => match run_first(game.target.formula.get(), &FirstScript::Rfl) {
-            First::Closed(_) => Some(game),
-            First::Open | First::SidesDiffer => None,
+        Sample::Sorry => Ok(Some(game)),
+        Sample::Rfl => match run_first(alloc, game.target.formula.get(), &FirstScript::Rfl) {
+            Ok(First::Closed(_)) => Ok(Some(game)),
+            Ok(First::Open | First::SidesDiffer) => Ok(None),
+            Err(e) => Err(e),
         },
     }
 }
@@ -226,7 +227,7 @@ fn game_of(alloc: Global, symbols: &[Symbol]) -> Result<Option<Game>, AllocError
     ensures { IfOk result (λ found. Finds found (IsGame symbols.now)) }
 {
     match game_at(alloc, symbols)? {
-        Some(game) => Ok(checked(game)),
+        Some(game) => checked(alloc, game),
         None => Ok(None),
     }
 }

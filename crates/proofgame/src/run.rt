@@ -1,5 +1,5 @@
 // One run of the program.
-ghost use Rattle.std.specs.Prelude.{◌≡◌, IsSome};
+ghost use Rattle.std.specs.Prelude.{◌≡◌, IfOk, IsSome};
 ghost use Rattle.pg_terms.specs.View.{formula};
 ghost use Rattle.pg_base.specs.Outside.{Rose};
 ghost use Rattle.proofgame.specs.Asked.{DoorFailed};
@@ -12,19 +12,24 @@ use crate::script::{script_at, script_in};
 use crate::words::game_name;
 use pg_base::{Door, Files, OutFault, Sink};
 use pg_tactic::{First, FirstScript, run_first};
-use std::alloc::Global;
+use std::alloc::{AllocError, Global};
 
 // What the script makes of the game.
-fn ending_of(game: Game, script: Option<FirstScript>) -> Ending<'static>
-    ensures { Ends (formula game.target.formula) script result }
+fn ending_of(
+    alloc: Global,
+    game: Game,
+    script: Option<FirstScript>,
+) -> Result<Ending<'static>, AllocError>
+    ensures { IfOk result (λ ending. Ends (formula game.target.formula) script ending) }
 {
     let Some(script) = script else {
-        return Ending::OtherScript;
+        return Ok(Ending::OtherScript);
     };
-    match run_first(game.target.formula.get(), &script) {
-        First::Closed(_) => Ending::Won,
-        First::Open => Ending::Open(game.target),
-        First::SidesDiffer => Ending::SidesDiffer,
+    match run_first(alloc, game.target.formula.get(), &script) {
+        Ok(First::Closed(_)) => Ok(Ending::Won),
+        Ok(First::Open) => Ok(Ending::Open(game.target)),
+        Ok(First::SidesDiffer) => Ok(Ending::SidesDiffer),
+        Err(e) => Err(e),
     }
 }
 
@@ -38,7 +43,10 @@ fn play_game<D: Door>(alloc: Global, game: Game, door: &mut D) -> Ending<'static
 {
     match script_at(alloc, door) {
         Ok(bytes) => match script_in(alloc, &bytes) {
-            Ok(script) => ending_of(game, script),
+            Ok(script) => match ending_of(alloc, game, script) {
+                Ok(ending) => ending,
+                Err(_) => Ending::Memory,
+            },
             Err(_) => Ending::Memory,
         },
         Err(OutFault::Failed) => Ending::Door,

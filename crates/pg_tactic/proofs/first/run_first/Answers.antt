@@ -1,12 +1,8 @@
-use Rattle.std.proofs.Common.{[]}
-use Rattle.pg_logic.specs.Numeral.{no_declarations}
-use Rattle.pg_logic.proofs.Numerals.{true-sides}
+use Rattle.std.proofs.Common.{◌∙◌, sym}
+use Rattle.pg_terms.specs.View.{formula}
 use Rattle.pg_tactic.proofs.Sides.{sides-differ}
 use Rattle.pg_tactic.proofs.first.run_first.Goals as goal
 
-pub returns-in-Accepted-clause-closed : goal.returns-in-Accepted-clause-closed
-returns-in-Accepted-clause-closed c = true-sides _ c.requires.numerals (c.check_first.ensures.sound c.in-Accepted.is no_declarations [])
-
-pub returns-in-Refused-clause-stopped : goal.returns-in-Refused-clause-stopped
-returns-in-Refused-clause-stopped c =
-    λ s. sides-differ _ _ _ _ c.in-Refused.is c.check_first.ensures.exact c.requires.numerals
+pub returns-else-branch-clause-stopped : goal.returns-else-branch-clause-stopped
+returns-else-branch-clause-stopped c =
+    λ stopped. sides-differ (formula c.args.target.now) (sym c.if-branch.false ∙ c.in_ok-is_reflexive-in-Rfl.ensures.exact) c.requires.numerals

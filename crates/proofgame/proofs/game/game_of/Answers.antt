@@ -1,7 +1,8 @@
 use Rattle.std.proofs.Common.{◌≡◌, Option, Some, None, subst}
 use Rattle.proofgame.specs.declared.game.Game.{Game}
+use Rattle.proofgame.specs.Game.{IsGame, Finds}
 use Rattle.proofgame.specs.Reading.{parts_of, game_at}
-use Rattle.proofgame.proofs.Games.{none-found, checked-found}
+use Rattle.proofgame.proofs.Games.{none-found, ok-map, checked-found}
 use Rattle.proofgame.proofs.game.game_of.Goals as goal
 
 pub returns-in-None : goal.returns-in-None
@@ -12,4 +13,6 @@ returns-in-None c =
 pub returns-in-Some : goal.returns-in-Some
 returns-in-Some c =
     let P : Option Game → Type 0 = λ o. parts_of o ≡ game_at c.args.symbols.now in
-    checked-found c.args.symbols.now c.in-Some.game c.checked.result (subst P c.in-Some.is c.in_ok-game.ensures) c.checked.ensures
+    ok-map c.checked.result _ (λ found. Finds found (IsGame c.args.symbols.now))
+    (λ found h. checked-found c.args.symbols.now c.in-Some.game found (subst P c.in-Some.is c.in_ok-game.ensures) h)
+    c.checked.ensures

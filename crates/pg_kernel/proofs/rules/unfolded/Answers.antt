@@ -1,0 +1,16 @@
+use Rattle.std.proofs.Common.{◌≡◌, subst, ap, ◌∙◌, sym, arith}
+use Rattle.pg_terms.specs.View.{terms, formula}
+use Rattle.pg_logic.specs.Tree.{substituted_formula}
+use Rattle.pg_kernel.proofs.Unfolds.{unfolded_missing, unfolded_found}
+use Rattle.pg_kernel.proofs.rules.unfolded.Goals as goal
+
+pub returns-then-p-predicate_count : goal.returns-then-p-predicate_count
+returns-then-p-predicate_count c =
+    unfolded_missing c.args.cx.now.sig.now _ _ _ c.in-Pred.is (omega (arith, c.if-p-predicate_count.true, c.predicate_count.ensures))
+
+pub returns-in_ok-substituted-in-Pred : goal.returns-in_ok-substituted-in-Pred
+returns-in_ok-substituted-in-Pred c =
+    let b = c.as_slice.ensures in
+    let e = c.in_ok-substituted-in-Pred.ensures in
+    unfolded_found c.args.cx.now.sig.now _ _ c.in-Pred.ts (formula c.predicate_body-body.result.now) _ c.in-Pred.is c.predicate_body-body.ensures
+    (e ∙ ap (λ ts. substituted_formula (terms ts) (formula c.predicate_body-body.result.now)) b)

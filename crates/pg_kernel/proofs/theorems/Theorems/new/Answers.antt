@@ -1,0 +1,13 @@
+use Rattle.std.proofs.Common.{◌≡◌, ◌+◌, ◌∷◌, [], length, length-append, arith, ap}
+use Rattle.pg_logic.specs.Axioms.{axioms}
+use Rattle.pg_arith.specs.View.{declarations}
+use Rattle.pg_kernel.proofs.Axioms.{one_more}
+use Rattle.pg_kernel.proofs.theorems.Theorems.new.Goals as goal
+
+pub loop-id-preserved : goal.loop-id-preserved
+loop-id-preserved c =
+    let a = c.in_ok-axiom.field-0 in
+    let added = c.in_ok-push.ensures.ok in (
+      one_more (axioms (declarations c.args.sig.now)) c.loop-id.id c.loop-id.formulas c.push.new.self a added c.loop-id.invariant.0 c.in_ok-axiom.ensures,
+      omega (arith, ap length added, length-append c.loop-id.formulas (a ∷ []), c.loop-id.invariant.1),
+    )

@@ -1,0 +1,81 @@
+//! Goals of premises, made from parts.
+
+ghost use Rattle.std.specs.Prelude.{◌≡◌, IfOk, MatchOption, OnSome, Option};
+ghost use Rattle.pg_logic.specs.Tree as tree;
+ghost use Rattle.pg_logic.specs.Kernel as logic;
+ghost use Rattle.pg_terms.specs.View.{term, formula};
+
+use pg_terms::{Formula, Name, Term};
+use sqlite_items::Boxed;
+use std::alloc::{AllocError, Global};
+
+/// An equal formula in a box.
+pub fn boxed(alloc: Global, a: &Formula) -> Result<Boxed<Formula>, AllocError>
+    ensures { IfOk result (λ r. r ≡ a.now) }
+{
+    Boxed::new(alloc, a.copied(alloc)?)
+}
+
+/// A body opened by the newest variable.
+pub fn newest(alloc: Global, vars: u32, a: &Formula) -> Result<Boxed<Formula>, AllocError>
+    ensures { IfOk result (λ r. formula r ≡ tree.opened_formula (tree.free vars) (formula a.now)) }
+{
+    Boxed::new(alloc, a.opened(alloc, &Term::Free(vars))?)
+}
+
+pub fn and(alloc: Global, a: &Formula, b: &Formula) -> Result<Formula, AllocError>
+    ensures { IfOk result (λ r. formula r ≡ tree.and (formula a.now) (formula b.now)) }
+{
+    Ok(Formula::And(boxed(alloc, a)?, boxed(alloc, b)?))
+}
+
+pub fn or(alloc: Global, a: &Formula, b: &Formula) -> Result<Formula, AllocError>
+    ensures { IfOk result (λ r. formula r ≡ tree.or (formula a.now) (formula b.now)) }
+{
+    Ok(Formula::Or(boxed(alloc, a)?, boxed(alloc, b)?))
+}
+
+pub fn imp(alloc: Global, a: &Formula, b: &Formula) -> Result<Formula, AllocError>
+    ensures { IfOk result (λ r. formula r ≡ tree.imp (formula a.now) (formula b.now)) }
+{
+    Ok(Formula::Imp(boxed(alloc, a)?, boxed(alloc, b)?))
+}
+
+pub fn all(alloc: Global, a: &Formula) -> Result<Formula, AllocError>
+    ensures { IfOk result (λ r. formula r ≡ tree.all logic.any_name (formula a.now)) }
+{
+    Ok(Formula::All(Name::new(alloc, "x")?, boxed(alloc, a)?))
+}
+
+pub fn ex(alloc: Global, a: &Formula) -> Result<Formula, AllocError>
+    ensures { IfOk result (λ r. formula r ≡ tree.ex logic.any_name (formula a.now)) }
+{
+    Ok(Formula::Ex(Name::new(alloc, "x")?, boxed(alloc, a)?))
+}
+
+pub fn eq(alloc: Global, s: &Term, t: &Term) -> Result<Formula, AllocError>
+    ensures { IfOk result (λ r. formula r ≡ tree.eq (term s.now) (term t.now)) }
+{
+    Ok(Formula::Eq(s.copied(alloc)?, t.copied(alloc)?))
+}
+
+pub fn is_middle(a: &Formula) -> bool
+    ensures { result ≡ logic.is_middle (formula a.now) }
+{
+    match a {
+        Formula::Or(a, b) => match b.get() {
+            Formula::Imp(b, c) => matches!(c.get(), Formula::Falsum) && a.get().same(b.get()),
+            _ => false,
+        },
+        _ => false,
+    }
+}
+
+pub fn is_reflexive(a: &Formula) -> bool
+    ensures { result ≡ logic.is_reflexive (formula a.now) }
+{
+    match a {
+        Formula::Eq(s, t) => s.same(t),
+        _ => false,
+    }
+}

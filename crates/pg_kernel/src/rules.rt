@@ -1,0 +1,374 @@
+//! The lines of the table of rules: what the premises prove, or none where the condition is false.
+
+ghost use Rattle.std.specs.Prelude.{◌≡◌, ◌&&◌, ◌+◌, ◌-◌, ◌^◌, ◌<◌, option_map, IfOk};
+ghost use Rattle.pg_logic.specs.Kernel as logic;
+ghost use Rattle.pg_logic.specs.Signature as arith;
+ghost use Rattle.pg_logic.specs.Tree as tree;
+ghost use Rattle.pg_terms.specs.View.{term, formula};
+ghost use Rattle.pg_arith.specs.View.{signature};
+ghost use Rattle.pg_kernel.specs.Premises.{premise, pair, triple};
+
+use crate::goals;
+use crate::premise::{Context, Premise, assuming, here};
+use pg_terms::{Formula, Term};
+use sqlite_items::Boxed;
+use std::alloc::AllocError;
+
+pub fn andi(
+    cx: &Context<'_>,
+    vars: u32,
+    goal: &Formula,
+) -> Result<Option<(Premise, Premise)>, AllocError>
+    ensures { IfOk result (λ o. option_map pair o ≡ logic.andi_line vars (formula goal.now)) }
+{
+    match goal {
+        Formula::And(a, b) => {
+            let first = here(cx.alloc, vars, a.get().copied(cx.alloc)?)?;
+            let second = here(cx.alloc, vars, b.get().copied(cx.alloc)?)?;
+            Ok(Some((first, second)))
+        }
+        _ => Ok(None),
+    }
+}
+
+pub fn andl(
+    cx: &Context<'_>,
+    vars: u32,
+    b: &Formula,
+    goal: &Formula,
+) -> Result<Option<Premise>, AllocError>
+    ensures { IfOk result (λ o. option_map premise o ≡ logic.andl_line (signature cx.now.sig.now) vars (formula b.now) (formula goal.now)) }
+{
+    if !cx.sig.fits(vars, b) {
+        return Ok(None);
+    }
+    Ok(Some(here(cx.alloc, vars, goals::and(cx.alloc, goal, b)?)?))
+}
+
+pub fn andr(
+    cx: &Context<'_>,
+    vars: u32,
+    a: &Formula,
+    goal: &Formula,
+) -> Result<Option<Premise>, AllocError>
+    ensures { IfOk result (λ o. option_map premise o ≡ logic.andr_line (signature cx.now.sig.now) vars (formula a.now) (formula goal.now)) }
+{
+    if !cx.sig.fits(vars, a) {
+        return Ok(None);
+    }
+    Ok(Some(here(cx.alloc, vars, goals::and(cx.alloc, a, goal)?)?))
+}
+
+pub fn orl(cx: &Context<'_>, vars: u32, goal: &Formula) -> Result<Option<Premise>, AllocError>
+    ensures { IfOk result (λ o. option_map premise o ≡ logic.orl_line vars (formula goal.now)) }
+{
+    match goal {
+        Formula::Or(a, _) => Ok(Some(here(cx.alloc, vars, a.get().copied(cx.alloc)?)?)),
+        _ => Ok(None),
+    }
+}
+
+pub fn orr(cx: &Context<'_>, vars: u32, goal: &Formula) -> Result<Option<Premise>, AllocError>
+    ensures { IfOk result (λ o. option_map premise o ≡ logic.orr_line vars (formula goal.now)) }
+{
+    match goal {
+        Formula::Or(_, b) => Ok(Some(here(cx.alloc, vars, b.get().copied(cx.alloc)?)?)),
+        _ => Ok(None),
+    }
+}
+
+pub fn ore(
+    cx: &Context<'_>,
+    vars: u32,
+    a: &Formula,
+    b: &Formula,
+    goal: &Formula,
+) -> Result<Option<(Premise, Premise, Premise)>, AllocError>
+    ensures { IfOk result (λ o. option_map triple o ≡ logic.ore_line (signature cx.now.sig.now) vars (formula a.now) (formula b.now) (formula goal.now)) }
+{
+    if !(cx.sig.fits(vars, a) && cx.sig.fits(vars, b)) {
+        return Ok(None);
+    }
+    let (left, right) = cases(cx, vars, a, b, goal)?;
+    let whole = goals::or(cx.alloc, a, b)?;
+    Ok(Some((here(cx.alloc, vars, whole)?, left, right)))
+}
+
+pub fn impi(cx: &Context<'_>, vars: u32, goal: &Formula) -> Result<Option<Premise>, AllocError>
+    ensures { IfOk result (λ o. option_map premise o ≡ logic.impi_line vars (formula goal.now)) }
+{
+    match goal {
+        Formula::Imp(a, b) => Ok(Some(case(cx, vars, a.get(), b.get())?)),
+        _ => Ok(None),
+    }
+}
+
+pub fn impe(
+    cx: &Context<'_>,
+    vars: u32,
+    a: &Formula,
+    goal: &Formula,
+) -> Result<Option<(Premise, Premise)>, AllocError>
+    ensures { IfOk result (λ o. option_map pair o ≡ logic.impe_line (signature cx.now.sig.now) vars (formula a.now) (formula goal.now)) }
+{
+    if !cx.sig.fits(vars, a) {
+        return Ok(None);
+    }
+    let whole = here(cx.alloc, vars, goals::imp(cx.alloc, a, goal)?)?;
+    let part = here(cx.alloc, vars, a.copied(cx.alloc)?)?;
+    Ok(Some((whole, part)))
+}
+
+pub fn alli(cx: &Context<'_>, vars: u32, goal: &Formula) -> Result<Option<Premise>, AllocError>
+    ensures { IfOk result (λ o. option_map premise o ≡ logic.alli_line vars (formula goal.now)) }
+{
+    if !has_room(vars) {
+        return Ok(None);
+    }
+    match goal {
+        Formula::All(_, a) => Ok(Some(here(
+            cx.alloc,
+            vars + 1,
+            a.get().opened(cx.alloc, &Term::Free(vars))?,
+        )?)),
+        _ => Ok(None),
+    }
+}
+
+pub fn alle(
+    cx: &Context<'_>,
+    vars: u32,
+    a: &Formula,
+    t: &Term,
+    goal: &Formula,
+) -> Result<Option<Premise>, AllocError>
+    ensures { IfOk result (λ o. option_map premise o ≡ logic.alle_line (signature cx.now.sig.now) vars (formula a.now) (term t.now) (formula goal.now)) }
+{
+    if !opens_to(cx, vars, a, t, goal)? {
+        return Ok(None);
+    }
+    Ok(Some(here(cx.alloc, vars, goals::all(cx.alloc, a)?)?))
+}
+
+pub fn exi(
+    cx: &Context<'_>,
+    vars: u32,
+    t: &Term,
+    goal: &Formula,
+) -> Result<Option<Premise>, AllocError>
+    ensures { IfOk result (λ o. option_map premise o ≡ logic.exi_line (signature cx.now.sig.now) vars (term t.now) (formula goal.now)) }
+{
+    if !cx.sig.fits_term(vars, t) {
+        return Ok(None);
+    }
+    match goal {
+        Formula::Ex(_, a) => Ok(Some(here(cx.alloc, vars, a.get().opened(cx.alloc, t)?)?)),
+        _ => Ok(None),
+    }
+}
+
+pub fn exe(
+    cx: &Context<'_>,
+    vars: u32,
+    a: &Formula,
+    goal: &Formula,
+) -> Result<Option<(Premise, Premise)>, AllocError>
+    ensures { IfOk result (λ o. option_map pair o ≡ logic.exe_line (signature cx.now.sig.now) vars (formula a.now) (formula goal.now)) }
+{
+    if !(has_room(vars) && cx.sig.fits_body(vars, a)) {
+        return Ok(None);
+    }
+    let some = here(cx.alloc, vars, goals::ex(cx.alloc, a)?)?;
+    let known = goals::newest(cx.alloc, vars, a)?;
+    let then = assuming(cx.alloc, vars + 1, known, goal.copied(cx.alloc)?)?;
+    Ok(Some((some, then)))
+}
+
+pub fn repl(
+    cx: &Context<'_>,
+    vars: u32,
+    a: &Formula,
+    s: &Term,
+    t: &Term,
+    goal: &Formula,
+) -> Result<Option<(Premise, Premise)>, AllocError>
+    ensures { IfOk result (λ o. option_map pair o ≡ logic.repl_line (signature cx.now.sig.now) vars (formula a.now) (term s.now) (term t.now) (formula goal.now)) }
+{
+    if !replaces_to(cx, vars, a, s, t, goal)? {
+        return Ok(None);
+    }
+    let equal = here(cx.alloc, vars, goals::eq(cx.alloc, s, t)?)?;
+    let before = here(cx.alloc, vars, a.opened(cx.alloc, s)?)?;
+    Ok(Some((equal, before)))
+}
+
+pub fn ind(
+    cx: &Context<'_>,
+    vars: u32,
+    a: &Formula,
+    t: &Term,
+    goal: &Formula,
+) -> Result<Option<(Premise, Premise)>, AllocError>
+    ensures { IfOk result (λ o. option_map pair o ≡ logic.ind_line (signature cx.now.sig.now) vars (formula a.now) (term t.now) (formula goal.now)) }
+{
+    if !induces_to(cx, vars, a, t, goal)? {
+        return Ok(None);
+    }
+    let first = here(cx.alloc, vars, a.opened(cx.alloc, &Term::Zero)?)?;
+    let step = step(cx, vars, a)?;
+    Ok(Some((first, step)))
+}
+
+pub fn predi(cx: &Context<'_>, vars: u32, goal: &Formula) -> Result<Option<Premise>, AllocError>
+    ensures { IfOk result (λ o. option_map premise o ≡ logic.predi_line (signature cx.now.sig.now) vars (formula goal.now)) }
+{
+    match unfolded(cx, goal)? {
+        None => Ok(None),
+        Some(body) => Ok(Some(here(cx.alloc, vars, body)?)),
+    }
+}
+
+pub fn prede(
+    cx: &Context<'_>,
+    vars: u32,
+    a: &Formula,
+    goal: &Formula,
+) -> Result<Option<Premise>, AllocError>
+    ensures { IfOk result (λ o. option_map premise o ≡ logic.prede_line (signature cx.now.sig.now) vars (formula a.now) (formula goal.now)) }
+{
+    if !unfolds_to(cx, vars, a, goal)? {
+        return Ok(None);
+    }
+    Ok(Some(here(cx.alloc, vars, a.copied(cx.alloc)?)?))
+}
+
+fn has_room(vars: u32) -> bool
+    ensures { result ≡ logic.has_room vars }
+{
+    vars < 4294967295
+}
+
+/// Whether a body and a term fit, and the body opened by the term is the goal.
+fn opens_to(
+    cx: &Context<'_>,
+    vars: u32,
+    a: &Formula,
+    t: &Term,
+    goal: &Formula,
+) -> Result<bool, AllocError>
+    ensures { IfOk result (λ b. b ≡ (arith.fits (signature cx.now.sig.now) vars 1 (formula a.now) && arith.fits_term (signature cx.now.sig.now).functions vars 0 (term t.now)
+        && tree.same_formula (tree.opened_formula (term t.now) (formula a.now)) (formula goal.now))) }
+{
+    if !(cx.sig.fits_body(vars, a) && cx.sig.fits_term(vars, t)) {
+        return Ok(false);
+    }
+    let whole = a.opened(cx.alloc, t)?;
+    Ok(whole.same(goal))
+}
+
+/// The same of two terms.
+fn replaces_to(
+    cx: &Context<'_>,
+    vars: u32,
+    a: &Formula,
+    s: &Term,
+    t: &Term,
+    goal: &Formula,
+) -> Result<bool, AllocError>
+    ensures { IfOk result (λ b. b ≡ (arith.fits (signature cx.now.sig.now) vars 1 (formula a.now) && arith.fits_term (signature cx.now.sig.now).functions vars 0 (term s.now)
+        && arith.fits_term (signature cx.now.sig.now).functions vars 0 (term t.now)
+        && tree.same_formula (tree.opened_formula (term t.now) (formula a.now)) (formula goal.now))) }
+{
+    if !(cx.sig.fits_body(vars, a) && cx.sig.fits_term(vars, s) && cx.sig.fits_term(vars, t)) {
+        return Ok(false);
+    }
+    let whole = a.opened(cx.alloc, t)?;
+    Ok(whole.same(goal))
+}
+
+/// The body of a predicate formula at its terms.
+fn unfolded(cx: &Context<'_>, a: &Formula) -> Result<Option<Formula>, AllocError>
+    ensures { IfOk result (λ o. option_map formula o ≡ logic.unfolded (signature cx.now.sig.now) (formula a.now)) }
+{
+    match a {
+        Formula::Pred(p, ts) => {
+            if *p >= cx.sig.predicate_count() {
+                return Ok(None);
+            }
+            let body = cx.sig.predicate_body(*p);
+            Ok(Some(body.substituted(cx.alloc, ts.as_slice())?))
+        }
+        _ => Ok(None),
+    }
+}
+
+/// Whether the goal is the body of this predicate formula.
+fn unfolds_to(cx: &Context<'_>, vars: u32, a: &Formula, goal: &Formula) -> Result<bool, AllocError>
+    ensures { IfOk result (λ b. b ≡ (arith.fits (signature cx.now.sig.now) vars 0 (formula a.now) && logic.is_unfolded (logic.unfolded (signature cx.now.sig.now) (formula a.now)) (formula goal.now))) }
+{
+    if !cx.sig.fits(vars, a) {
+        return Ok(false);
+    }
+    match unfolded(cx, a)? {
+        None => Ok(false),
+        Some(body) => Ok(body.same(goal)),
+    }
+}
+
+/// The condition of an induction.
+fn induces_to(
+    cx: &Context<'_>,
+    vars: u32,
+    a: &Formula,
+    t: &Term,
+    goal: &Formula,
+) -> Result<bool, AllocError>
+    ensures { IfOk result (λ b. b ≡ (logic.has_room vars && arith.fits (signature cx.now.sig.now) vars 1 (formula a.now) && arith.fits_term (signature cx.now.sig.now).functions vars 0 (term t.now)
+        && tree.same_formula (tree.opened_formula (term t.now) (formula a.now)) (formula goal.now))) }
+{
+    if !(has_room(vars) && cx.sig.fits_body(vars, a) && cx.sig.fits_term(vars, t)) {
+        return Ok(false);
+    }
+    let whole = a.opened(cx.alloc, t)?;
+    Ok(whole.same(goal))
+}
+
+/// A case of an `ore`.
+fn case(cx: &Context<'_>, vars: u32, a: &Formula, goal: &Formula) -> Result<Premise, AllocError>
+    ensures { IfOk result (λ p. premise p ≡ logic.assuming vars (formula a.now) (formula goal.now)) }
+{
+    let extra = goals::boxed(cx.alloc, a)?;
+    assuming(cx.alloc, vars, extra, goal.copied(cx.alloc)?)
+}
+
+/// Both.
+fn cases(
+    cx: &Context<'_>,
+    vars: u32,
+    a: &Formula,
+    b: &Formula,
+    goal: &Formula,
+) -> Result<(Premise, Premise), AllocError>
+    ensures { IfOk result (λ p. pair p ≡ (logic.assuming vars (formula a.now) (formula goal.now), logic.assuming vars (formula b.now) (formula goal.now))) }
+{
+    let left = case(cx, vars, a, goal)?;
+    let right = case(cx, vars, b, goal)?;
+    Ok((left, right))
+}
+
+/// What the step of an induction proves.
+fn next(cx: &Context<'_>, vars: u32, a: &Formula) -> Result<Formula, AllocError>
+    ensures { IfOk result (λ r. formula r ≡ tree.opened_formula (tree.succ (tree.free vars)) (formula a.now)) }
+{
+    let next = Term::Succ(Boxed::new(cx.alloc, Term::Free(vars))?);
+    a.opened(cx.alloc, &next)
+}
+
+/// The step of an induction.
+fn step(cx: &Context<'_>, vars: u32, a: &Formula) -> Result<Premise, AllocError>
+    requires { vars < 2 ^ 32 - 1 }
+    ensures { IfOk result (λ p. premise p ≡ logic.assuming (vars + 1) (tree.opened_formula (tree.free vars) (formula a.now)) (tree.opened_formula (tree.succ (tree.free vars)) (formula a.now))) }
+{
+    let known = goals::newest(cx.alloc, vars, a)?;
+    assuming(cx.alloc, vars + 1, known, next(cx, vars, a)?)
+}
