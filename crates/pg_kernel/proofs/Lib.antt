@@ -1,4 +1,5 @@
 pub mod Admitted
+pub mod AxiomTheorems
 pub mod Axioms
 pub mod Given
 pub mod Naming

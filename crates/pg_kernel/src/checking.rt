@@ -21,10 +21,13 @@ use pg_terms::Formula;
 use sqlite_items::{Items, at};
 use std::alloc::{AllocError, Global};
 
-/// What a check says: accepted, or the first node in preorder that fails its rule.
+/// The kernel's answer about a proof.
 #[derive(Clone, Copy, Debug, PartialEq, Eq)]
 pub enum Verdict {
+    /// Each node meets its rule.
     Accepted,
+    /// The first node in preorder that does not, and its rule, 1 to 21. Nodes are counted from 0,
+    /// and the count stays at the type's end.
     Refused { node: u32, rule: u8 },
 }
 
@@ -49,6 +52,7 @@ fn settled(at: u32, holds: bool, rule: u8) -> Verdict
     }
 }
 
+/// Whether a formula of a list is the goal.
 fn is_at(all: &[Formula], i: u32, goal: &Formula) -> bool
     ensures { result ≡ logic.is_at (slice_get (formulas all.now) i) (formula goal.now) }
 {
@@ -58,6 +62,8 @@ fn is_at(all: &[Formula], i: u32, goal: &Formula) -> bool
     }
 }
 
+/// The check of a proof, whose root has the number `node`, in a context. The hypotheses are as they
+/// were afterwards.
 #[cycle(check)]
 fn fault(
     p: &Proof,
@@ -287,6 +293,7 @@ fn fault_premise(
     }
 }
 
+/// The check, on a list of the hypotheses to which those of the premises can be put.
 fn checked(
     alloc: Global,
     sig: &Signature,
@@ -311,7 +318,12 @@ fn checked(
     fault(p, &cx, vars, &mut held, &mut node, goal)
 }
 
-/// Whether the proof proves the goal from the hypotheses, over so many variables.
+/// Checks a proof of a goal in a context: `vars` variables and the hypotheses, which fit them as
+/// the goal does. The proof may name the theorems.
+///
+/// It is accepted exactly where each node meets its rule in the context that its parents give it
+/// ("Rules" in docs/LOGIC.md), and else the first node that does not is told. It fails only for
+/// want of memory.
 pub fn check(
     alloc: Global,
     sig: &Signature,
@@ -324,6 +336,8 @@ pub fn check(
     requires hyps { AllFit (signature sig.now) vars (formulas hyps.now) }
     requires goal { IsTrue (arith.fits (signature sig.now) vars 0 (formula goal.now)) }
     ensures exact { IfOk result (λ v. v ≡ checks.verdict_of (logic.fault_of (signature sig.now) (formulas theorems.now) (proof p.now) vars (formulas hyps.now) (formula goal.now) 0)) }
+    // what is accepted is true where the hypotheses are, and each theorem that the proof names fits
+    // no variable and is true ("Soundness" in docs/LOGIC.md)
     ensures sound { IfOk result (λ v. v ≡ Verdict.Accepted → ((k : ℕ) → IsTrue (is_named k (proof p.now)) → IsTheorem (signature sig.now) (formulas theorems.now) k) → Entails (signature sig.now) vars (formulas hyps.now) (formula goal.now)) }
 {
     sig.is_declared();

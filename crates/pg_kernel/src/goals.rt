@@ -23,42 +23,49 @@ pub fn newest(alloc: Global, vars: u32, a: &Formula) -> Result<Boxed<Formula>, A
     Boxed::new(alloc, a.opened(alloc, &Term::Free(vars))?)
 }
 
+/// A conjunction of equal formulas.
 pub fn and(alloc: Global, a: &Formula, b: &Formula) -> Result<Formula, AllocError>
     ensures { IfOk result (λ r. formula r ≡ tree.and (formula a.now) (formula b.now)) }
 {
     Ok(Formula::And(boxed(alloc, a)?, boxed(alloc, b)?))
 }
 
+/// A disjunction of equal formulas.
 pub fn or(alloc: Global, a: &Formula, b: &Formula) -> Result<Formula, AllocError>
     ensures { IfOk result (λ r. formula r ≡ tree.or (formula a.now) (formula b.now)) }
 {
     Ok(Formula::Or(boxed(alloc, a)?, boxed(alloc, b)?))
 }
 
+/// An implication of equal formulas.
 pub fn imp(alloc: Global, a: &Formula, b: &Formula) -> Result<Formula, AllocError>
     ensures { IfOk result (λ r. formula r ≡ tree.imp (formula a.now) (formula b.now)) }
 {
     Ok(Formula::Imp(boxed(alloc, a)?, boxed(alloc, b)?))
 }
 
+/// The universal formula of an equal body.
 pub fn all(alloc: Global, a: &Formula) -> Result<Formula, AllocError>
     ensures { IfOk result (λ r. formula r ≡ tree.all logic.any_name (formula a.now)) }
 {
     Ok(Formula::All(Name::new(alloc, "x")?, boxed(alloc, a)?))
 }
 
+/// The existential formula of an equal body.
 pub fn ex(alloc: Global, a: &Formula) -> Result<Formula, AllocError>
     ensures { IfOk result (λ r. formula r ≡ tree.ex logic.any_name (formula a.now)) }
 {
     Ok(Formula::Ex(Name::new(alloc, "x")?, boxed(alloc, a)?))
 }
 
+/// An equation of equal terms.
 pub fn eq(alloc: Global, s: &Term, t: &Term) -> Result<Formula, AllocError>
     ensures { IfOk result (λ r. formula r ≡ tree.eq (term s.now) (term t.now)) }
 {
     Ok(Formula::Eq(s.copied(alloc)?, t.copied(alloc)?))
 }
 
+/// Whether a formula is one or its own negation.
 pub fn is_middle(a: &Formula) -> bool
     ensures { result ≡ logic.is_middle (formula a.now) }
 {
@@ -71,6 +78,7 @@ pub fn is_middle(a: &Formula) -> bool
     }
 }
 
+/// Whether a formula is `t = t`.
 pub fn is_reflexive(a: &Formula) -> bool
     ensures { result ≡ logic.is_reflexive (formula a.now) }
 {

@@ -1,4 +1,5 @@
-//! The lines of the table of rules: what the premises prove, or none where the condition is false.
+//! The lines of the table of rules ("Rules" in docs/LOGIC.md): what the premises of a node prove,
+//! or none where a field does not fit or the condition is false. Each fails only for want of memory.
 
 ghost use Rattle.std.specs.Prelude.{◌≡◌, ◌&&◌, ◌+◌, ◌-◌, ◌^◌, ◌<◌, option_map, IfOk};
 ghost use Rattle.pg_logic.specs.Kernel as logic;
@@ -14,6 +15,7 @@ use pg_terms::{Formula, Term};
 use sqlite_items::Boxed;
 use std::alloc::AllocError;
 
+/// Rule 3.
 pub fn andi(
     cx: &Context<'_>,
     vars: u32,
@@ -31,6 +33,7 @@ pub fn andi(
     }
 }
 
+/// Rule 4.
 pub fn andl(
     cx: &Context<'_>,
     vars: u32,
@@ -45,6 +48,7 @@ pub fn andl(
     Ok(Some(here(cx.alloc, vars, goals::and(cx.alloc, goal, b)?)?))
 }
 
+/// Rule 5.
 pub fn andr(
     cx: &Context<'_>,
     vars: u32,
@@ -59,6 +63,7 @@ pub fn andr(
     Ok(Some(here(cx.alloc, vars, goals::and(cx.alloc, a, goal)?)?))
 }
 
+/// Rule 6.
 pub fn orl(cx: &Context<'_>, vars: u32, goal: &Formula) -> Result<Option<Premise>, AllocError>
     ensures { IfOk result (λ o. option_map premise o ≡ logic.orl_line vars (formula goal.now)) }
 {
@@ -68,6 +73,7 @@ pub fn orl(cx: &Context<'_>, vars: u32, goal: &Formula) -> Result<Option<Premise
     }
 }
 
+/// Rule 7.
 pub fn orr(cx: &Context<'_>, vars: u32, goal: &Formula) -> Result<Option<Premise>, AllocError>
     ensures { IfOk result (λ o. option_map premise o ≡ logic.orr_line vars (formula goal.now)) }
 {
@@ -77,6 +83,7 @@ pub fn orr(cx: &Context<'_>, vars: u32, goal: &Formula) -> Result<Option<Premise
     }
 }
 
+/// Rule 8.
 pub fn ore(
     cx: &Context<'_>,
     vars: u32,
@@ -94,6 +101,7 @@ pub fn ore(
     Ok(Some((here(cx.alloc, vars, whole)?, left, right)))
 }
 
+/// Rule 9.
 pub fn impi(cx: &Context<'_>, vars: u32, goal: &Formula) -> Result<Option<Premise>, AllocError>
     ensures { IfOk result (λ o. option_map premise o ≡ logic.impi_line vars (formula goal.now)) }
 {
@@ -103,6 +111,7 @@ pub fn impi(cx: &Context<'_>, vars: u32, goal: &Formula) -> Result<Option<Premis
     }
 }
 
+/// Rule 10.
 pub fn impe(
     cx: &Context<'_>,
     vars: u32,
@@ -119,6 +128,7 @@ pub fn impe(
     Ok(Some((whole, part)))
 }
 
+/// Rule 13.
 pub fn alli(cx: &Context<'_>, vars: u32, goal: &Formula) -> Result<Option<Premise>, AllocError>
     ensures { IfOk result (λ o. option_map premise o ≡ logic.alli_line vars (formula goal.now)) }
 {
@@ -135,6 +145,7 @@ pub fn alli(cx: &Context<'_>, vars: u32, goal: &Formula) -> Result<Option<Premis
     }
 }
 
+/// Rule 14.
 pub fn alle(
     cx: &Context<'_>,
     vars: u32,
@@ -150,6 +161,7 @@ pub fn alle(
     Ok(Some(here(cx.alloc, vars, goals::all(cx.alloc, a)?)?))
 }
 
+/// Rule 15.
 pub fn exi(
     cx: &Context<'_>,
     vars: u32,
@@ -167,6 +179,7 @@ pub fn exi(
     }
 }
 
+/// Rule 16.
 pub fn exe(
     cx: &Context<'_>,
     vars: u32,
@@ -184,6 +197,7 @@ pub fn exe(
     Ok(Some((some, then)))
 }
 
+/// Rule 18.
 pub fn repl(
     cx: &Context<'_>,
     vars: u32,
@@ -202,6 +216,7 @@ pub fn repl(
     Ok(Some((equal, before)))
 }
 
+/// Rule 19.
 pub fn ind(
     cx: &Context<'_>,
     vars: u32,
@@ -219,6 +234,7 @@ pub fn ind(
     Ok(Some((first, step)))
 }
 
+/// Rule 20.
 pub fn predi(cx: &Context<'_>, vars: u32, goal: &Formula) -> Result<Option<Premise>, AllocError>
     ensures { IfOk result (λ o. option_map premise o ≡ logic.predi_line (signature cx.now.sig.now) vars (formula goal.now)) }
 {
@@ -228,6 +244,7 @@ pub fn predi(cx: &Context<'_>, vars: u32, goal: &Formula) -> Result<Option<Premi
     }
 }
 
+/// Rule 21.
 pub fn prede(
     cx: &Context<'_>,
     vars: u32,
@@ -242,6 +259,7 @@ pub fn prede(
     Ok(Some(here(cx.alloc, vars, a.copied(cx.alloc)?)?))
 }
 
+/// Whether a context may have one more variable.
 fn has_room(vars: u32) -> bool
     ensures { result ≡ logic.has_room vars }
 {
@@ -266,7 +284,7 @@ fn opens_to(
     Ok(whole.same(goal))
 }
 
-/// The same of two terms.
+/// Whether a body and two terms fit, and the body opened by the second is the goal.
 fn replaces_to(
     cx: &Context<'_>,
     vars: u32,
@@ -315,7 +333,7 @@ fn unfolds_to(cx: &Context<'_>, vars: u32, a: &Formula, goal: &Formula) -> Resul
     }
 }
 
-/// The condition of an induction.
+/// Whether the condition of an induction holds.
 fn induces_to(
     cx: &Context<'_>,
     vars: u32,
@@ -341,7 +359,7 @@ fn case(cx: &Context<'_>, vars: u32, a: &Formula, goal: &Formula) -> Result<Prem
     assuming(cx.alloc, vars, extra, goal.copied(cx.alloc)?)
 }
 
-/// Both.
+/// Both cases of an `ore`.
 fn cases(
     cx: &Context<'_>,
     vars: u32,

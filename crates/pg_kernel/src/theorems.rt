@@ -1,8 +1,9 @@
-ghost use Rattle.std.specs.Prelude.{◌≡◌, [], ◌∷◌, ◌++◌, ◌+◌, ◌-◌, ◌^◌, ◌<◌, length, map, slice_get, IfOk, OnOk, OnErr};
+ghost use Rattle.std.specs.Prelude.{◌≡◌, ℕ, [], ◌∷◌, ◌++◌, ◌+◌, ◌-◌, ◌^◌, ◌<◌, length, map, slice_get, IfOk, OnOk, OnErr};
 ghost use Rattle.std.specs.Option.{option_copied};
 ghost use Rattle.pg_logic.specs.Axioms.{axioms};
+ghost use Rattle.pg_logic.specs.Sound.{IsTheorem};
 ghost use Rattle.pg_terms.specs.View.{formulas};
-ghost use Rattle.pg_arith.specs.View.{declarations};
+ghost use Rattle.pg_arith.specs.View.{declarations, signature};
 
 use pg_arith::Signature;
 use pg_terms::Formula;
@@ -37,8 +38,11 @@ impl Model for Theorems {
 impl Theorems {
     /// The axioms of a signature, in their order. It fails only for want of memory.
     pub fn new(alloc: Global, sig: &Signature) -> Result<Theorems, AllocError>
-        ensures { IfOk result (λ t. formulas t ≡ map (λ x. x.says) (axioms (declarations sig.now))) }
+        ensures axioms { IfOk result (λ t. formulas t ≡ map (λ x. x.says) (axioms (declarations sig.now))) }
+        // each of them fits no variable and is true
+        ensures theorems { IfOk result (λ t. (k : ℕ) → IsTheorem (signature sig.now) (formulas t) k) }
     {
+        sig.is_declared();
         let mut formulas = Items::new(alloc);
         for id in 0..sig.axiom_count() {
             formulas.push(sig.axiom(alloc, id)?)?;
