@@ -1,10 +1,17 @@
+ghost use Rattle.std.specs.Prelude.{IfOk, IsTrue};
+ghost use Rattle.pg_logic.specs.Numeral.{is_numeral, is_numeral_equation};
+ghost use Rattle.pg_terms.specs.View.{term, formula};
+
 use crate::{First, FirstScript, run_first};
 use pg_terms::{Formula, Term};
 use sqlite_items::Boxed;
 use std::alloc::{AllocError, Global};
 
-/// `succ 0 = t`.
-fn one_is(alloc: Global, t: Term) -> Result<Boxed<Formula>, AllocError> {
+/// `succ 0 = t`, for a numeral t.
+fn one_is(alloc: Global, t: Term) -> Result<Boxed<Formula>, AllocError>
+    requires { IsTrue (is_numeral (term t)) }
+    ensures { IfOk result (λ a. IsTrue (is_numeral_equation (formula a))) }
+{
     let t = Boxed::new(alloc, t)?;
     let one = Term::succ(alloc, Term::Zero)?;
     Boxed::new(alloc, Formula::Eq(one, t.into_inner()))
