@@ -1,0 +1,5 @@
+pub mod Scope
+pub mod Faults
+pub mod Meaning
+pub mod Spelling
+pub mod Laws
