@@ -1,7 +1,7 @@
 -- What the names, numbers and signs of a text stand for at a place.
 use Rattle.std.specs.Prelude.{ℕ, Bool, false, List, [], ◌∷◌, Option, Some, None, option_map, unwrap_or, position, slice_get, if◌then◌else◌, codes}
 use Rattle.std.specs.Option.{option_or}
-use Rattle.std.specs.Str.{bytes_eq, encode_utf8_all}
+use Rattle.std.specs.Str.{bytes_eq}
 use Rattle.pg_logic.specs.Declarations.{Declarations, name_of, arity_of}
 use Rattle.pg_grammar.specs.Shapes.{Op, LessEqual, Less, Plus, Times, Power, Word, Binders}
 use Rattle.pg_grammar.specs.Printing.{binder_words}
@@ -79,12 +79,12 @@ is_zero text = bytes_eq text (codes "0")
 abbrev pub number_needs : Scope → List ℕ → Option ℕ
 number_needs c text = if is_zero text then Some 0 else option_map (function_needs c.declared) (function_named c.declared text)
 
--- the function or predicate that stands for a sign has its text as name
+-- The function or predicate that stands for a sign has the text of the sign as its name. ≤ has these bytes.
 abbrev pub sign_text : Op → List ℕ
 sign_text Plus = codes "+"
 sign_text Times = codes "*"
 sign_text Power = codes "^"
-sign_text LessEqual = encode_utf8_all (codes "≤")
+sign_text LessEqual = 226 ∷ 137 ∷ 164 ∷ []
 sign_text Less = codes "<"
 sign_text _ = []
 
