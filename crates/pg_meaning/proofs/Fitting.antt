@@ -7,11 +7,11 @@ use Rattle.pg_logic.specs.Signature.{Function, Signature, takes, holds_of, count
 use Rattle.pg_logic.specs.Declarations.{signature_of}
 use Rattle.pg_grammar.specs.Shapes.{Op, Implies, Or, And, Equal, NotEqual, LessEqual, Less, Plus, Times, Power, Quantifier, ForAll, Exists, Word, Shape, Named, Numeral, Falsum, Paren, Next, App, Neg, Quant, Binary, can_apply, IsShape}
 use Rattle.pg_grammar.specs.Printing.{binder_words}
-use Rattle.pg_meaning.specs.Scope.{Scope, under_name, under, in_body, Thing, Binder, Variable, Function as FunctionThing, Predicate, function_named, predicate_named, looked_up, thing_needs, is_zero, number_needs, function_needs, predicate_needs, sign_text, sign_needs}
+use Rattle.pg_meaning.specs.Scope.{Scope, under_name, under, in_body, Thing, Binder, Variable, Function as FunctionThing, Predicate, function_named, predicate_named, looked_up, IsThere, thing_needs, is_zero, number_needs, function_needs, predicate_needs, sign_text, sign_needs}
 use Rattle.pg_meaning.specs.Faults.{Sort, TermSort, FormulaSort, thing_sort, sort, sign_sort, operand_sort, beginning, misfit, use_fault, head_fault, own_fault, own_or, parts_fault}
 use Rattle.pg_meaning.specs.Meaning.{function_term, thing_term, number_term, two, sign_term, with_last, applied, term_of, predicate_formula, thing_formula, holds_at, bound_by, formula_of}
 use Rattle.pg_meaning.specs.Laws.{TermFitLaw, FormulaFitLaw}
-use Rattle.pg_meaning.proofs.Lookups.{neither, position_within, IsThere, found, as_needed, takes-needed, holds-needed}
+use Rattle.pg_meaning.proofs.Lookups.{neither, position_within, found, as_needed, takes-needed, holds-needed}
 
 -- ---- n arguments more
 

@@ -6,7 +6,7 @@ use Rattle.std.proofs.lemmas.Bool.{ltb-true, eqb-true, eq-eqb}
 use Rattle.std.proofs.lemmas.Option.{cond_some, same_Some, slice_get-map}
 use Rattle.pg_logic.specs.Signature.{takes, holds_of, function_arity}
 use Rattle.pg_logic.specs.Declarations.{NamedFunction, by_recursion, by_term, NamedPredicate, Declarations, arity_of, function_of, predicate_of, signature_of}
-use Rattle.pg_meaning.specs.Scope.{Scope, Thing, Binder, Variable, Function as FunctionThing, Predicate, looked_up, function_needs, predicate_needs}
+use Rattle.pg_meaning.specs.Scope.{Scope, Thing, Binder, Variable, Function as FunctionThing, Predicate, looked_up, IsThere, function_needs, predicate_needs}
 use Rattle.pg_meaning.specs.Faults.{Arity, use_fault}
 
 -- ---- options
@@ -34,12 +34,6 @@ pub there : {X : Type 0} (xs : List X) (i : ℕ) → i < length xs → (x : X) �
 there [] i lt = absurd (omega arith)
 there (x ∷ xs) zero lt = (x, refl)
 there (x ∷ xs) (suc i) lt = there xs i (omega (arith, lt))
-
-abbrev pub IsThere : Scope → Thing → Type 0
-IsThere c (Binder i) = i < length c.binders
-IsThere c (Variable i) = i < length c.vars
-IsThere c (FunctionThing f) = f < length c.declared.functions
-IsThere c (Predicate p) = p < length c.declared.predicates
 
 pub found : (c : Scope) (x : List ℕ) (thing : Thing) → looked_up c x ≡ Some thing → IsThere c thing
 found c x =

@@ -1,5 +1,5 @@
 -- What the names, numbers and signs of a text stand for at a place.
-use Rattle.std.specs.Prelude.{ℕ, Bool, false, List, [], ◌∷◌, Option, Some, None, option_map, unwrap_or, position, slice_get, if◌then◌else◌, codes}
+use Rattle.std.specs.Prelude.{ℕ, ◌<◌, length, Bool, false, List, [], ◌∷◌, Option, Some, None, option_map, unwrap_or, position, slice_get, if◌then◌else◌, codes}
 use Rattle.std.specs.Option.{option_or}
 use Rattle.std.specs.Str.{bytes_eq}
 use Rattle.pg_logic.specs.Declarations.{Declarations, name_of, arity_of}
@@ -54,6 +54,13 @@ looked_up c x =
     (option_or (option_map Variable (position (is_called x) c.vars))
     (option_or (option_map Function (function_named c.declared x))
     (option_map Predicate (predicate_named c.declared x))))
+
+-- the binder or variable is one of the scope's, the function or predicate is declared
+abbrev pub IsThere : Scope → Thing → Type 0
+IsThere c (Binder i) = i < length c.binders
+IsThere c (Variable i) = i < length c.vars
+IsThere c (Function f) = f < length c.declared.functions
+IsThere c (Predicate p) = p < length c.declared.predicates
 
 -- ---- how many arguments each needs; None: it isn't declared
 

@@ -1,0 +1,4 @@
+pub mod Binders
+pub mod Calls
+pub mod Views
+pub mod Wholes
