@@ -1,4 +1,5 @@
-pub mod Binders
 pub mod Calls
+pub mod Places
+pub mod Texts
 pub mod Views
 pub mod Wholes

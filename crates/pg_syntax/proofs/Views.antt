@@ -1,9 +1,10 @@
 -- What values of the Rust types stand for, a node at a time.
 use Rattle.std.proofs.Common.{◌≡◌, ℕ, List, rules}
-use Rattle.pg_logic.specs.Tree.{app, Fm, pred}
+use Rattle.pg_logic.specs.Tree.{app, pred}
 use Rattle.pg_grammar.specs.Shapes as grammar
 use Rattle.pg_terms.specs.declared.term.Term.{Term, App as TermApp, the_lemmas as term_lemmas}
-use Rattle.pg_terms.specs.View.{term, args}
+use Rattle.pg_terms.specs.declared.formula.Formula.{Formula, Pred, the_lemmas as formula_lemmas}
+use Rattle.pg_terms.specs.View.{term, args, formula}
 use Rattle.pg_shape.specs.declared.shape.Op.{Op}
 use Rattle.pg_shape.specs.declared.shape.Shape.{Shape, App, Binary, the_lemmas as shape_lemmas}
 use Rattle.pg_shape.specs.View.{op, shape}
@@ -16,3 +17,6 @@ shape-Binary at o l r = search (rules, shape_lemmas)
 
 pub term-App : (f : ℕ) (ts : List Term) → term (TermApp f ts) ≡ app f (args ts)
 term-App f ts = search (rules, term_lemmas)
+
+pub formula-Pred : (p : ℕ) (ts : List Term) → formula (Pred p ts) ≡ pred p (args ts)
+formula-Pred p ts = search (rules, formula_lemmas)

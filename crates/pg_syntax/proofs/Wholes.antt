@@ -10,7 +10,7 @@ use Rattle.pg_syntax.specs.Steps.{fault_from, head_term, head_formula, arguments
 use Rattle.pg_syntax.proofs.Calls.{function_call, predicate_call}
 
 -- no fault anywhere
-none-of : (o p : Option meaning.Fault) → o ≡ None → p ≡ None → option_or o p ≡ None
+pub none-of : (o p : Option meaning.Fault) → o ≡ None → p ≡ None → option_or o p ≡ None
 none-of o p e h = ap (λ x. option_or x p) e ∙ h
 
 pub call_means : (c : Scope) (at : ℕ) (f s whole f1 f2 s1 s2 : Shape) (id : ℕ) (ts : Tms) (t : Tm)

@@ -1,12 +1,12 @@
 -- What the steps of reading answer.
-use Rattle.std.specs.Prelude.{ℕ, ◌+◌, ◌≡◌, ◌≢◌, true, List, [], ◌∷◌, length, Option, Some, None, Result, Ok, Err}
+use Rattle.std.specs.Prelude.{ℕ, ◌+◌, ◌≡◌, ◌≢◌, true, List, [], ◌∷◌, length, map, Option, Some, None, Result, Ok, Err}
 use Rattle.std.specs.Option.{option_or}
-use Rattle.pg_logic.specs.Tree.{Tm, nought, Tms, none, arg, Fm, falsum}
-use Rattle.pg_grammar.specs.Shapes.{Word, Shape, Named, Numeral, Falsum, Paren, Next, App, Neg, Quant, Binary, can_apply}
+use Rattle.pg_logic.specs.Tree.{Tm, nought, Tms, none, arg, Fm, falsum, and, or, imp}
+use Rattle.pg_grammar.specs.Shapes.{Op, Implies, Or, And, Quantifier, Word, Shape, Named, Numeral, Falsum, Paren, Next, App, Neg, Quant, Binary, can_apply}
 use Rattle.pg_grammar.specs.Printing.{binder_words}
 use Rattle.pg_meaning.specs.Scope.{Scope, looked_up}
 use Rattle.pg_meaning.specs.Faults as meaning
-use Rattle.pg_meaning.specs.Meaning.{thing_term, thing_formula, with_last, term_of}
+use Rattle.pg_meaning.specs.Meaning.{thing_term, thing_formula, with_last, quantified, term_of}
 use Rattle.pg_syntax.specs.declared.fault.SyntaxFault.{SyntaxFault}
 use Rattle.pg_syntax.specs.declared.fault.SyntaxFault.TheVariants.{Expected, Unknown, Arity, Deep, Long, OutOfMemory}
 
@@ -77,3 +77,20 @@ IsReadable (App f s) = (can_apply f ≡ true) × IsReadable f × IsReadable s
 IsReadable (Neg at s) = IsReadable s
 IsReadable (Quant at q b s) = AreTexts (binder_words b) × IsReadable s
 IsReadable (Binary at op l r) = IsReadable l × IsReadable r
+
+-- ---- formulas
+
+-- two formulas with a sign between them
+abbrev pub joined : Op → Fm → Fm → Fm
+joined Implies a b = imp a b
+joined Or a b = or a b
+joined And a b = and a b
+joined _ a b = falsum
+
+abbrev pub texts : List Word → List (List ℕ)
+texts xs = map (λ (x : Word). x.text) xs
+
+-- one binder for each name, the first one the outermost
+abbrev pub bound_names : Quantifier → List (List ℕ) → Fm → Fm
+bound_names q [] a = a
+bound_names q (x ∷ xs) a = quantified q x (bound_names q xs a)

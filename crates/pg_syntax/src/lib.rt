@@ -2,8 +2,9 @@
 #![tactic(auto)]
 
 mod application;
+mod binders;
 mod fault;
-// mod formula;
+mod formula;
 mod names;
 mod place;
 // mod reader;

@@ -47,7 +47,7 @@ fn inside(place: Option<u32>, is_here: bool) -> Option<u32>
 }
 
 // The innermost binder of this name, by how many stand inside it.
-#[tactic(auto, using(crate::proofs::Binders::turn))]
+#[tactic(auto, using(crate::proofs::Places::turn))]
 fn binder_place(binders: &[Name], text: &str) -> Option<u32>
     requires { length binders.now < 2 ^ 32 }
     ensures { result ≡ position (bytes_eq text.now) (reverse binders.now) }

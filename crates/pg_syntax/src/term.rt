@@ -19,14 +19,21 @@ use pg_terms::Term;
 use sqlite_items::{Boxed, Items};
 use std::alloc::{AllocError, Global};
 
-// A function of two arguments at these.
-fn infix(alloc: Global, f: u16, left: Term, right: Term) -> Result<Term, AllocError>
-    ensures { IfOk result (λ t. term_in t ≡ app f (trees.two (term_in left) (term_in right))) }
+/// Two arguments.
+pub fn pair(alloc: Global, left: Term, right: Term) -> Result<Items<Term>, AllocError>
+    ensures { IfOk result (λ ts. args ts ≡ trees.two (term_in left) (term_in right)) }
 {
     let mut both = Items::new(alloc);
     both.push(left)?;
     both.push(right)?;
-    Ok(Term::App(f, both))
+    Ok(both)
+}
+
+// A function of two arguments at these.
+fn infix(alloc: Global, f: u16, left: Term, right: Term) -> Result<Term, AllocError>
+    ensures { IfOk result (λ t. term_in t ≡ app f (trees.two (term_in left) (term_in right))) }
+{
+    Ok(Term::App(f, pair(alloc, left, right)?))
 }
 
 // One argument more, the last.
