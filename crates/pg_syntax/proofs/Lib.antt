@@ -1,4 +1,5 @@
 pub mod Calls
+pub mod Joins
 pub mod Places
 pub mod Texts
 pub mod Views
