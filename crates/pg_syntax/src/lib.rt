@@ -7,7 +7,7 @@ mod fault;
 mod formula;
 mod names;
 mod place;
-// mod reader;
+mod reader;
 mod scope;
 mod term;
 // #[cfg(test)]
@@ -15,4 +15,4 @@ mod term;
 
 pub use fault::SyntaxFault;
 pub use names::Names;
-// pub use reader::{read_formula, read_term};
+pub use reader::{read_formula, read_term};
