@@ -1,6 +1,6 @@
 -- What is known of a shape that was read from tokens: its names are texts, and it is small.
 use Rattle.std.proofs.Common.{◌≡◌, ◌≢◌, ℕ, ◌+◌, ◌*◌, ◌≤◌, ◌<◌, Bool, true, false, List, [], ◌∷◌, ◌++◌, length, map, get_or, All, zero, suc, refl, ap, ◌∙◌, sym, subst, arith, length-append, append-nil, append_assoc, Result, Ok, Err, IfOk, ◌^◌}
-use Rattle.std.specs.Str.{chars}
+use Rattle.std.specs.Str.{bytes_eq, chars}
 use Rattle.std.specs.Prelude.{codes, if◌then◌else◌}
 use Rattle.std.proofs.lemmas.List.Elements.{All-head, All-tail}
 use Rattle.pg_base.specs.Tokens.{Word as Lexeme}
@@ -148,8 +148,12 @@ either-name false x y h k = k
 
 name-text : (at : ℕ) (text : List ℕ) → text ≢ [] → AreTexts (name_in (name_symbol at text))
 name-text at text h =
-    let name : AreTexts (name_in (Name (record { at = at; text = text }))) = (h, tt) in
-    either-name _ _ _ tt (either-name _ _ _ tt (either-name _ _ _ tt name))
+    let name : Sym = Name (record { at = at; text = text }) in
+    let others : Sym = if is_reserved text then Other else name in
+    let falsum : Sym = if bytes_eq text (codes "False") then FalseWord at else others in
+    either-name (bytes_eq text (codes "succ")) (SuccWord at) falsum tt
+    (either-name (bytes_eq text (codes "False")) (FalseWord at) others tt
+    (either-name (is_reserved text) Other name tt (h, tt)))
 
 not-empty : (text : List ℕ) → IsTokenText kind.Name text → text ≢ []
 unfolding chars

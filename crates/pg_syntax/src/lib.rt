@@ -10,8 +10,8 @@ mod place;
 mod reader;
 mod scope;
 mod term;
-// #[cfg(test)]
-// mod tests;
+#[cfg(test)]
+mod tests;
 
 pub use fault::SyntaxFault;
 pub use names::Names;

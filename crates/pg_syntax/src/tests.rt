@@ -1,7 +1,7 @@
-use crate::{Names, SyntaxFault, read_formula, read_term};
+use crate::{Names, SyntaxFault, read_formula};
 use pg_arith::Signature;
 use pg_base::tokens_of;
-use pg_terms::{Formula, Name, Term};
+use pg_terms::{Formula, Name};
 use std::alloc::{AllocError, Global};
 use std::test::Fail;
 
