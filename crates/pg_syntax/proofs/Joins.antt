@@ -39,10 +39,10 @@ pub join_means : (ns : Names) (sig : List Function × List Predicate) (old b1 : 
     → MeansFormula (scope_of ns sig old) from whole (joined op a b)
 join_means ns sig old b1 from at op l r whole l1 l2 r1 r2 a b w e1 e2 k1 k2 same o h k =
     let h : MeansFormula (scope_of ns sig old) (meaning.beginning l) l a =
-      subst (λ y. MeansFormula (scope_of ns sig old) (meaning.beginning l) y a) e2 (subst (λ x. MeansFormula (scope_of ns sig old) (meaning.beginning x) l2 a) e1 h) in
+    subst (λ y. MeansFormula (scope_of ns sig old) (meaning.beginning l) y a) e2 (subst (λ x. MeansFormula (scope_of ns sig old) (meaning.beginning x) l2 a) e1 h) in
     let k : MeansFormula (scope_of ns sig old) (meaning.beginning r) r b =
-      subst (λ y. MeansFormula (scope_of ns sig old) (meaning.beginning r) y b) k2 (subst (λ x. MeansFormula (scope_of ns sig old) (meaning.beginning x) r2 b) k1
-      (subst (λ bs. MeansFormula (scope_of ns sig bs) (meaning.beginning r1) r2 b) same k)) in
+    subst (λ y. MeansFormula (scope_of ns sig old) (meaning.beginning r) y b) k2 (subst (λ x. MeansFormula (scope_of ns sig old) (meaning.beginning x) r2 b) k1
+    (subst (λ bs. MeansFormula (scope_of ns sig bs) (meaning.beginning r1) r2 b) same k)) in
     subst (λ x. MeansFormula (scope_of ns sig old) from x (joined op a b)) (sym w) (connective (scope_of ns sig old) from at op l r a b o h k)
 
 -- ---- quantifiers
@@ -81,6 +81,7 @@ quant_means ns sig old inside left outer from at q b s whole s1 s2 a r w k1 k2 i
     let ws : List Word = binder_words b in
     let gone : drop outer left ≡ texts ws = ap (drop outer) (kept ∙ is) ∙ drop-front old (texts ws) outer size in
     let body : a ≡ formula_of (in_body (scope_of ns sig old) b) s =
-      h.1 ∙ ap (formula_of (scope_of ns sig inside)) k2 ∙ sym (ap (λ c. formula_of c s) (under-names ns sig old ws ∙ ap (scope_of ns sig) (sym is))) in
-    (quant_fault ns sig old inside from at q b s whole s1 s2 w k1 k2 is ∙ h.0,
-    e ∙ ap (λ l. bound_names q l a) gone ∙ bound-texts q ws a ∙ ap (bound_by q ws) body ∙ sym (ap (formula_of (scope_of ns sig old)) w))
+    h.1 ∙ ap (formula_of (scope_of ns sig inside)) k2 ∙ sym (ap (λ c. formula_of c s) (under-names ns sig old ws ∙ ap (scope_of ns sig) (sym is))) in (
+      quant_fault ns sig old inside from at q b s whole s1 s2 w k1 k2 is ∙ h.0,
+      e ∙ ap (λ l. bound_names q l a) gone ∙ bound-texts q ws a ∙ ap (bound_by q ws) body ∙ sym (ap (formula_of (scope_of ns sig old)) w),
+    )

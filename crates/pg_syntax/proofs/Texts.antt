@@ -33,12 +33,12 @@ bound-last q (y ∷ xs) x a = ap (quantified q y) (bound-last q xs x a)
 
 pub ruleset texts_rules = (texts-append, are_texts_left, are_texts_right, append_assoc, words_drop, brackets_drop)
 
-
 -- one binder is taken off
 pub bound_turn : (q : Quantifier) (outer : ℕ) (old new : List (List ℕ)) (x : List ℕ) (a b : Fm) → outer < length old → old ≡ new ++ x ∷ [] → b ≡ quantified q x a
     → (outer ≤ length new) × (take outer new ≡ take outer old) × (bound_names q (drop outer new) b ≡ bound_names q (drop outer old) a)
 bound_turn q outer old new x a b lt e is =
-    let few : outer ≤ length new = omega (arith, lt, ap length e, length-append new (x ∷ [])) in
-    (few,
-    sym (ap (take outer) e ∙ take-append-le outer new (x ∷ []) few),
-    ap (bound_names q (drop outer new)) is ∙ sym (bound-last q (drop outer new) x a) ∙ sym (ap (λ l. bound_names q l a) (ap (drop outer) e ∙ drop-append-le outer new (x ∷ []) few)))
+    let few : outer ≤ length new = omega (arith, lt, ap length e, length-append new (x ∷ [])) in (
+      few,
+      sym (ap (take outer) e ∙ take-append-le outer new (x ∷ []) few),
+      ap (bound_names q (drop outer new)) is ∙ sym (bound-last q (drop outer new) x a) ∙ sym (ap (λ l. bound_names q l a) (ap (drop outer) e ∙ drop-append-le outer new (x ∷ []) few)),
+    )

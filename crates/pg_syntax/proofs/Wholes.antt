@@ -27,9 +27,10 @@ call_means c at f s whole f1 f2 s1 s2 id ts t w e1 e2 k1 k2 h a l =
     let h : H f = subst H e1 h in
     let a : A f = subst A e2 a in
     let l : L s s = subst (L s) k2 (subst (λ x. L x s2) k1 l) in
-    let both : W (App f s) =
-      (none-of _ _ h.0 (none-of _ _ a.0 l.0),
-      ap (λ us. app id (with_last us t)) a.1 ∙ ap (λ u. app id (with_last (arguments c f) u)) l.1 ∙ sym (ap (λ u. applied u (term_of c s)) (function_call c f id h.1))) in
+    let both : W (App f s) = (
+      none-of _ _ h.0 (none-of _ _ a.0 l.0),
+      ap (λ us. app id (with_last us t)) a.1 ∙ ap (λ u. app id (with_last (arguments c f) u)) l.1 ∙ sym (ap (λ u. applied u (term_of c s)) (function_call c f id h.1)),
+    ) in
     subst W (sym w) both
 
 pub sign_means : (c : Scope) (from at : ℕ) (op : Op) (l r whole l1 l2 r1 r2 : Shape) (id : ℕ) (s t : Tm)
@@ -45,7 +46,8 @@ sign_means c from at op l r whole l1 l2 r1 r2 id s t w e1 e2 k1 k2 h o a b =
     let W : Shape → Type 0 = λ x. (fault_from c meaning.TermSort from x ≡ None) × (app id (two s t) ≡ term_of c x) in
     let a : M s l l = subst (M s l) e2 (subst (λ x. M s x l2) e1 a) in
     let b : M t r r = subst (M t r) k2 (subst (λ x. M t x r2) k1 b) in
-    let both : W (Binary at op l r) =
-      (none-of _ _ h.0 (subst P (sym o) (none-of _ _ a.0 b.0)),
-      ap (λ u. app id (two u t)) a.1 ∙ ap (λ u. app id (two (term_of c l) u)) b.1 ∙ ap (λ f. function_term f (two (term_of c l) (term_of c r))) h.1) in
+    let both : W (Binary at op l r) = (
+      none-of _ _ h.0 (subst P (sym o) (none-of _ _ a.0 b.0)),
+      ap (λ u. app id (two u t)) a.1 ∙ ap (λ u. app id (two (term_of c l) u)) b.1 ∙ ap (λ f. function_term f (two (term_of c l) (term_of c r))) h.1,
+    ) in
     subst W (sym w) both

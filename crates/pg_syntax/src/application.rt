@@ -193,11 +193,7 @@ pub fn named_term(
 }
 
 /// The term that a number means.
-pub fn number_term(
-    alloc: Global,
-    scope: &Scope<'_>,
-    number: &Word<'_>,
-) -> Result<Term, SyntaxFault>
+pub fn number_term(alloc: Global, scope: &Scope<'_>, number: &Word<'_>) -> Result<Term, SyntaxFault>
     ensures { Means term (meaning.use_fault number.now.at 0 (names.number_needs (scope_in scope.now) number.now.text.now)) (trees.number_term (scope_in scope.now) number.now.text.now) result }
 {
     if number.text == "0" {

@@ -32,11 +32,7 @@ fn push_words(
 }
 
 #[tactic(auto, using(crate::proofs::Texts::texts_rules))]
-fn push_group(
-    alloc: Global,
-    binders: &mut Items<Name>,
-    names: &Group<'_>,
-) -> Result<(), AllocError>
+fn push_group(alloc: Global, binders: &mut Items<Name>, names: &Group<'_>) -> Result<(), AllocError>
     requires { AreTexts (printing.group_words (group names.now)) }
     ensures { OnOk result (binders.new ≡ binders.old ++ texts (printing.group_words (group names.now))) }
 {

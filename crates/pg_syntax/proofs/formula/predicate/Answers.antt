@@ -11,7 +11,8 @@ use Rattle.pg_syntax.proofs.formula.predicate.Goals as goal
 pub returns : goal.returns
 returns c =
     let own = c.in_ok-id.ensures in
-    let parts = c.in_ok-ts.ensures in
-    (none-of _ _ own.0 parts.0,
-    ap formula_in c.in_ok-new.ensures ∙ formula-Pred c.in_ok-id.id c.in_ok-ts.ts ∙ ap (pred c.in_ok-id.id) parts.1
-    ∙ sym (predicate_call (scope_in c.args.scope.now) (shape_in c.args.shape.now) c.in_ok-id.id own.1))
+    let parts = c.in_ok-ts.ensures in (
+      none-of _ _ own.0 parts.0,
+      ap formula_in c.in_ok-new.ensures ∙ formula-Pred c.in_ok-id.id c.in_ok-ts.ts ∙ ap (pred c.in_ok-id.id) parts.1
+          ∙ sym (predicate_call (scope_in c.args.scope.now) (shape_in c.args.shape.now) c.in_ok-id.id own.1),
+    )
