@@ -46,7 +46,7 @@ fn each_fault_has_its_place(rt: HostRuntime) -> Result<(), Fail> {
         ("a * b", ('e', 0, 0, 0)),
         ("a = b * c", ('u', 6, 0, 0)),
         ("(a) ∧ False", ('e', 0, 0, 0)),
-        ("False ∧ (succ a)", ('e', 8, 0, 0)),
+        ("False ∧ (succ a)", ('e', 10, 0, 0)),
         ("a = succ a b", ('a', 4, 2, 1)),
         ("a = a b", ('a', 4, 1, 0)),
         ("a = z", ('u', 4, 0, 0)),
