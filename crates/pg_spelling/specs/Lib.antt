@@ -1,0 +1,4 @@
+pub mod Fresh
+pub mod Named
+pub mod Written
+pub mod Laws
