@@ -1,7 +1,7 @@
 -- Terms and formulas with the names with which they are printed.
-use Rattle.std.specs.Prelude.{ℕ, Bool, false, List, [], ◌∷◌, ◌++◌, map, Option, Some, None, if◌then◌else◌, slice_index_or, unwrap_or, codes}
+use Rattle.std.specs.Prelude.{ℕ, Bool, false, List, [], ◌∷◌, ◌++◌, map, Option, Some, None, if◌then◌else◌, slice_get, slice_index_or, codes}
 use Rattle.std.specs.Char.{is_ascii_digit}
-use Rattle.std.specs.Str.{bytes_eq, encode_utf8_all}
+use Rattle.std.specs.Str.{bytes_eq}
 use Rattle.pg_logic.specs.Tree.{Tm, free, bound, nought, succ, app, Tms, none, arg, Fm, falsum, eq, pred, and, or, imp, all, ex}
 use Rattle.pg_logic.specs.Declarations.{Name, Declarations, name_of}
 use Rattle.pg_grammar.specs.Shapes.{ForAll, Exists}
@@ -12,11 +12,15 @@ use Rattle.pg_spelling.specs.Fresh.{fresh}
 -- printed names of the binders around, the innermost first; and what is declared.
 pub record Scope : Type 0 where
   pub vars : List (Option Name)
-  pub around : List Name
+  pub binders : List Name
   pub declared : Declarations
 
+-- outside of all binders
+abbrev pub outside : List (Option Name) → Declarations → Scope
+outside vars declared = record { vars = vars; binders = []; declared = declared }
+
 abbrev pub under : Name → Scope → Scope
-under x s = record { vars = s.vars; around = x ∷ s.around; declared = s.declared }
+under x s = record { vars = s.vars; binders = x ∷ s.binders; declared = s.declared }
 
 -- the names that there are
 abbrev pub live : List (Option Name) → List Name
@@ -36,22 +40,26 @@ declared_names d = function_names d ++ predicate_names d
 
 -- what a binder may not be called
 abbrev pub taken : Scope → List Name
-taken s = s.around ++ (live s.vars ++ declared_names s.declared)
+taken s = s.binders ++ (live s.vars ++ declared_names s.declared)
 
 -- the name that a number has, or the empty text
 abbrev pub name_at : List Name → ℕ → Name
 name_at names i = slice_index_or names i []
 
-abbrev pub variable : Scope → ℕ → Name
-variable s i = unwrap_or (slice_index_or s.vars i None) []
+abbrev pub live_name : Option (Option Name) → Name
+live_name (Some (Some x)) = x
+live_name _ = []
 
--- the signs that a function or a predicate may have for its name
+abbrev pub variable : Scope → ℕ → Name
+variable s i = live_name (slice_get s.vars i)
+
+-- the signs that a function or a predicate may have for its name: + * ^ ≤ <
 abbrev pub sign_in : List (Name × Join) → Name → Option Join
 sign_in [] name = None
 sign_in (row ∷ rows) name = if bytes_eq name row.0 then Some row.1 else sign_in rows name
 
 abbrev pub sign_named : Name → Option Join
-sign_named = sign_in ((codes "+", Sum) ∷ (codes "*", Product) ∷ (codes "^", Raised) ∷ (encode_utf8_all (codes "≤"), AtMost) ∷ (codes "<", Below) ∷ [])
+sign_named = sign_in ((codes "+", Sum) ∷ (codes "*", Product) ∷ (codes "^", Raised) ∷ (226 ∷ 137 ∷ 164 ∷ [], AtMost) ∷ (codes "<", Below) ∷ [])
 
 abbrev pub begins_with_digit : Name → Bool
 begins_with_digit [] = false
@@ -74,7 +82,7 @@ at_arguments name ts = Call name ts
 abbrev mutual
   pub named : Scope → Tm → Tree
   named s (free i) = Call (variable s i) Ended
-  named s (bound i) = Call (name_at s.around i) Ended
+  named s (bound i) = Call (name_at s.binders i) Ended
   named s nought = Number (codes "0")
   named s (succ t) = After (named s t) Ended
   named s (app f ts) = at_arguments (name_at (function_names s.declared) f) (named_all s ts)
