@@ -5,14 +5,14 @@ use Rattle.std.proofs.lemmas.Bool.{false≢true}
 use Rattle.std.proofs.lemmas.Bool.Decides.{nat_tests}
 use Rattle.pg_logic.specs.Tree.{Tm, Tms, none, arg, Fm, falsum, eq, pred, and, or, imp, all, ex, list_of}
 use Rattle.pg_logic.specs.Declarations.{Name}
-use Rattle.pg_grammar.specs.Shapes.{Op, Implies, Or, And, Equal, NotEqual, LessEqual, Less, Plus, Times, Power, Shape, Named, App, level, left_min, right_min, strength}
-use Rattle.pg_grammar.specs.Printing.{Join, Arrow, Either, Both, Equals, AtMost, Below, Sum, Product, Raised, sign_of, Tree, Trees, Ended, Also, Call, Number, Never, Node, is_quant, operand, joined, node_shape, applied, unplaced, shape_of, shapes_of}
+use Rattle.pg_grammar.specs.Shapes.{Op, Implies, Or, And, Equal, NotEqual, LessEqual, Less, Plus, Times, Power, Shape, Named, Numeral, Falsum, Paren, Next, App, Neg, Quant, Binary, level, left_min, right_min, strength}
+use Rattle.pg_grammar.specs.Printing.{Join, Arrow, Either, Both, Equals, AtMost, Below, Sum, Product, Raised, sign_of, Tree, Trees, Ended, Also, Call, Number, Never, Node, is_quant, operand, joined, negated, node_shape, applied, unplaced, shape_of, shapes_of}
 use Rattle.std.specs.Str.{bytes_eq}
 use Rattle.pg_terms.specs.declared.term.Term.{Term}
 use Rattle.pg_terms.specs.View.{term, args}
 use Rattle.pg_spelling.specs.Named.{Scope, name_at, predicate_names, named, named_all, named_formula, at_arguments, alone, between, begins_with_digit, sign_in, sign_named}
 use Rattle.pg_spelling.specs.Written.{written}
-use Rattle.pg_syntax.specs.Places.{weight, operand_text}
+use Rattle.pg_syntax.specs.Places.{weight, operand_text, is_falsum, is_equation}
 use Rattle.pg_syntax.specs.Texts.{arguments_text}
 
 -- ---- applications
@@ -56,10 +56,11 @@ written-before s name (arg a (arg b (arg c ts))) h = written-call s name (arg a 
 
 -- ---- signs
 
--- no name is an arrow's
+-- no name is an arrow's, nor that of =
 abbrev IsPlain : Option Join → Type 0
 IsPlain None = Unit {0}
 IsPlain (Some Arrow) = ⊥
+IsPlain (Some Equals) = ⊥
 IsPlain (Some j) = Unit {0}
 
 abbrev ArePlain : List (Name × Join) → Type 0
@@ -82,7 +83,7 @@ sign-between None x name a b p is = cc
 sign-between (Some Arrow) x name a b p is = absurd p
 sign-between (Some Either) x name a b p is = let f : x ≡ sign_of Either = cc in ap (λ o. joined o (shape_of a) (shape_of b)) (sym f)
 sign-between (Some Both) x name a b p is = let f : x ≡ sign_of Both = cc in ap (λ o. joined o (shape_of a) (shape_of b)) (sym f)
-sign-between (Some Equals) x name a b p is = let f : x ≡ sign_of Equals = cc in ap (λ o. joined o (shape_of a) (shape_of b)) (sym f)
+sign-between (Some Equals) x name a b p is = absurd p
 sign-between (Some AtMost) x name a b p is = let f : x ≡ sign_of AtMost = cc in ap (λ o. joined o (shape_of a) (shape_of b)) (sym f)
 sign-between (Some Below) x name a b p is = let f : x ≡ sign_of Below = cc in ap (λ o. joined o (shape_of a) (shape_of b)) (sym f)
 sign-between (Some Sum) x name a b p is = let f : x ≡ sign_of Sum = cc in ap (λ o. joined o (shape_of a) (shape_of b)) (sym f)
@@ -234,3 +235,101 @@ behind old one new more whole e w = ap (λ x. x ++ more) e ∙ append_assoc old 
 pub if_ok : {A E : Type 0} (r : Result A E) (P Q : A → Type 0) → ((x : A) → P x → Q x) → IfOk r P → IfOk r Q
 if_ok (Ok x) P Q f h = f x h
 if_ok (Err e) P Q f h = tt
+
+-- ---- negations
+
+negated-negated : (l : Shape) → negated (negated l) ≡ Neg 0 (operand 40 (negated l))
+negated-negated (Named x) = refl
+negated-negated (Numeral n) = refl
+negated-negated (Falsum at) = refl
+negated-negated (Paren at s) = refl
+negated-negated (Next at s) = refl
+negated-negated (App f s) = refl
+negated-negated (Neg at s) = refl
+negated-negated (Quant at q b s) = refl
+negated-negated (Binary at Implies l r) = refl
+negated-negated (Binary at Or l r) = refl
+negated-negated (Binary at And l r) = refl
+negated-negated (Binary at Equal l r) = refl
+negated-negated (Binary at NotEqual l r) = refl
+negated-negated (Binary at LessEqual l r) = refl
+negated-negated (Binary at Less l r) = refl
+negated-negated (Binary at Plus l r) = refl
+negated-negated (Binary at Times l r) = refl
+negated-negated (Binary at Power l r) = refl
+
+abbrev IsOther : Shape → Type 0
+IsOther s = negated s ≡ Neg 0 (operand 40 s)
+
+other-applied : (f x : Shape) (xs : List Shape) → IsOther (applied (App f x) xs)
+other-applied f x [] = refl
+other-applied f x (y ∷ ys) = other-applied (App f x) (operand 101 y) ys
+
+other-between : (o : Option Join) (name : Name) (a b : Tree) → IsPlain o → IsOther (shape_of (between o name a b))
+other-between None name a b p = refl
+other-between (Some Arrow) name a b p = absurd p
+other-between (Some Either) name a b p = refl
+other-between (Some Both) name a b p = refl
+other-between (Some Equals) name a b p = absurd p
+other-between (Some AtMost) name a b p = refl
+other-between (Some Below) name a b p = refl
+other-between (Some Sum) name a b p = refl
+other-between (Some Product) name a b p = refl
+other-between (Some Raised) name a b p = refl
+
+other-alone : (name : Name) → IsOther (shape_of (alone name))
+other-alone name = by_digit (begins_with_digit name)
+  where
+    by_digit : (b : Bool) → IsOther (shape_of (cond b (Number name) (Call name Ended)))
+    by_digit true = refl
+    by_digit false = refl
+
+other-call : (s : Scope) (name : Name) (ts : Tms) → IsOther (shape_of (at_arguments name (named_all s ts)))
+other-call s name none = other-alone name
+other-call s name (arg a none) = refl
+other-call s name (arg a (arg b none)) = other-between (sign_named name) name (named s a) (named s b) (plain-named name)
+other-call s name (arg a (arg b (arg d ts))) = other-applied (App (Named (unplaced name)) (operand 101 (shape_of (named s a)))) (operand 101 (shape_of (named s b))) (shapes_of (named_all s (arg d ts)))
+
+other-arrow : (s : Scope) (a b : Fm) → IsOther (shape_of (named_formula s (imp a b)))
+other-arrow s a falsum = negated-negated (shape_of (named_formula s a))
+other-arrow s a (eq t u) = refl
+other-arrow s a (pred p ts) = ap negated (arrow-other s a (pred p ts) (λ e. cc)) ∙ ap (λ x. Neg 0 (operand 40 x)) (sym (arrow-other s a (pred p ts) (λ e. cc)))
+other-arrow s a (and c d) = refl
+other-arrow s a (or c d) = refl
+other-arrow s a (imp c d) = refl
+other-arrow s a (all x c) = refl
+other-arrow s a (ex x c) = refl
+
+-- what is no equation is denied by ¬
+pub denied-other : (s : Scope) (a : Fm) → ((t u : Tm) → a ≡ eq t u → ⊥) → negated (shape_of (named_formula s a)) ≡ Neg 0 (operand 40 (shape_of (named_formula s a)))
+denied-other s falsum h = refl
+denied-other s (eq t u) h = absurd (h t u refl)
+denied-other s (pred p ts) h = other-call s (name_at (predicate_names s.declared) p) ts
+denied-other s (and c d) h = refl
+denied-other s (or c d) h = refl
+denied-other s (imp c d) h = other-arrow s c d
+denied-other s (all x c) h = refl
+denied-other s (ex x c) h = refl
+
+pub denied-whole : (s : Scope) (a b : Fm) → is_falsum b ≡ true → is_equation a ≡ false → shape_of (named_formula s (imp a b)) ≡ Neg 0 (operand 40 (shape_of (named_formula s a)))
+denied-whole s a falsum is h = denied-other s a (λ t u e. absurd (false≢true (sym h ∙ ap is_equation e)))
+denied-whole s a (eq t u) is h = cc
+denied-whole s a (pred p ts) is h = cc
+denied-whole s a (and c d) is h = cc
+denied-whole s a (or c d) is h = cc
+denied-whole s a (imp c d) is h = cc
+denied-whole s a (all x c) is h = cc
+denied-whole s a (ex x c) is h = cc
+
+pub unequal-whole : (s : Scope) (a b : Fm) (x y : Tm) → is_falsum b ≡ true → a ≡ eq x y → shape_of (named_formula s (imp a b)) ≡ joined NotEqual (shape_of (named s x)) (shape_of (named s y))
+unequal-whole s a falsum x y is e = ap (λ f. negated (shape_of (named_formula s f))) e
+unequal-whole s a (eq t u) x y is h = cc
+unequal-whole s a (pred p ts) x y is h = cc
+unequal-whole s a (and c d) x y is h = cc
+unequal-whole s a (or c d) x y is h = cc
+unequal-whole s a (imp c d) x y is h = cc
+unequal-whole s a (all z c) x y is h = cc
+unequal-whole s a (ex z c) x y is h = cc
+
+pub arrow-whole : (s : Scope) (a b : Fm) → is_falsum b ≡ false → shape_of (named_formula s (imp a b)) ≡ joined Implies (shape_of (named_formula s a)) (shape_of (named_formula s b))
+arrow-whole s a b h = arrow-other s a b (λ e. absurd (false≢true (sym h ∙ ap is_falsum e)))

@@ -1,7 +1,10 @@
 -- Under which names a tree is printed at a place, and how strong a printed tree is there.
-use Rattle.std.specs.Prelude.{ℕ, List, ◌++◌, reverse, Option, if◌then◌else◌}
+use Rattle.std.specs.Prelude.{ℕ, ◌≡◌, Bool, true, false, List, ◌++◌, reverse, Option, Some, None, if◌then◌else◌}
 use Rattle.pg_logic.specs.Declarations.{Name}
-use Rattle.pg_logic.specs.Tree.{Tms, none, arg}
+use Rattle.std.specs.Borrow.{Bor}
+use Rattle.pg_logic.specs.Tree.{Fm, falsum, eq}
+use Rattle.pg_terms.specs.declared.term.Term.{Term}
+use Rattle.pg_terms.specs.View.{term}
 use Rattle.pg_grammar.specs.Shapes.{Shape, strength}
 use Rattle.pg_grammar.specs.Printing.{is_quant, operand, shape_of}
 use Rattle.pg_spelling.specs.Named.{Scope, live, declared_names, named}
@@ -29,3 +32,17 @@ weight s = if is_quant s then 0 else strength s
 -- an operand, with its parentheses
 abbrev pub operand_text : ℕ → Shape → List ℕ
 operand_text min s = written (operand min s)
+
+-- what a formula is
+abbrev pub is_falsum : Fm → Bool
+is_falsum falsum = true
+is_falsum _ = false
+
+abbrev pub is_equation : Fm → Bool
+is_equation (eq a b) = true
+is_equation _ = false
+
+-- the sides of an equation
+abbrev pub Sides : Fm → Option (Bor Term × Bor Term) → Type 0
+Sides a None = is_equation a ≡ false
+Sides a (Some p) = a ≡ eq (term p.0.now) (term p.1.now)

@@ -10,12 +10,12 @@ ghost use Rattle.pg_spelling.specs.Fresh.{fresh};
 ghost use Rattle.pg_logic.specs.Tree.{imp};
 ghost use Rattle.pg_spelling.specs.Named.{outside, named_formula};
 ghost use Rattle.pg_spelling.specs.Written.{quantifier_text, written, printed, printed_formula};
-ghost use Rattle.pg_syntax.specs.Places.{scope_under, weight, operand_text};
+ghost use Rattle.pg_syntax.specs.Places.{scope_under, weight, operand_text, is_falsum, Sides};
 ghost use Rattle.pg_syntax.specs.Texts.{bound_text};
 
 use crate::fresh::Taken;
 use crate::names::Names;
-use crate::written::{ATOM, Context, Place, call_weight, write_call, write_joined, write_sign, write_term};
+use crate::written::{ATOM, Context, NEGATION, Place, call_weight, write_call, write_joined, write_sign, write_term};
 use pg_arith::Signature;
 use pg_shape::{Op, Quantifier};
 use pg_terms::{Formula, Name, Term};
@@ -41,14 +41,33 @@ fn quantifier_text(q: Quantifier) -> &'static str
     }
 }
 
+/// Whether a formula is `False`.
+fn is_falsum(a: &Formula) -> bool
+    ensures { result ≡ is_falsum (formula a.now) }
+{
+    matches!(a, Formula::Falsum)
+}
+
+/// The sides of an equation.
+fn sides(a: &Formula) -> Option<(&Term, &Term)>
+    ensures { Sides (formula a.now) result }
+{
+    match a {
+        Formula::Eq(s, t) => Some((s, t)),
+        _ => None,
+    }
+}
+
 /// How strong an implication is as an operand.
 fn implication_weight(a: &Formula, b: &Formula) -> u8
     ensures { (s : _) → result ≡ weight (shape_of (named_formula s (imp (formula a.now) (formula b.now)))) }
 {
-    match (a, b) {
-        (Formula::Eq(_, _), Formula::Falsum) => 50,
-        (_, Formula::Falsum) => 40,
-        _ => 25,
+    if !is_falsum(b) {
+        return Op::Implies.level();
+    }
+    match sides(a) {
+        Some(_) => Op::NotEqual.level(),
+        None => NEGATION,
     }
 }
 
@@ -156,15 +175,15 @@ fn write_implication(
     ensures text { OnOk result (string_bytes out.new ≡ string_bytes out.old ++ printed_formula (scope_under p.now.cx.now binders.old) (imp (formula a.now) (formula b.now))) }
     ensures kept { OnOk result (binders.new ≡ binders.old) }
 {
-    match (a, b) {
-        (Formula::Eq(s, t), Formula::Falsum) => {
-            write_joined(out, &place(p.cx, binders), Op::NotEqual, s, t)
-        }
-        (_, Formula::Falsum) => {
+    if !is_falsum(b) {
+        return write_both(p, out, binders, Op::Implies, a, b);
+    }
+    match sides(a) {
+        Some((s, t)) => write_joined(out, &place(p.cx, binders), Op::NotEqual, s, t),
+        None => {
             out.push_str("¬ ")?;
-            write_operand(p, out, binders, 40, a)
+            write_operand(p, out, binders, NEGATION, a)
         }
-        _ => write_both(p, out, binders, Op::Implies, a, b),
     }
 }
 

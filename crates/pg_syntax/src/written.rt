@@ -29,9 +29,10 @@ pub struct Place<'a> {
     pub binders: &'a [Name],
 }
 
-/// How strong an atom is, and how strong an application.
+/// How strong an atom is, an application, and `¬`.
 pub const ATOM: u8 = 101;
 pub const APPLICATION: u8 = 100;
+pub const NEGATION: u8 = 40;
 
 /// The spelling of a sign.
 pub fn op_text(sign: Op) -> &'static str
