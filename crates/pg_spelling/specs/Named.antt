@@ -6,19 +6,10 @@ use Rattle.pg_logic.specs.Tree.{Tm, free, bound, nought, succ, app, Tms, none, a
 use Rattle.pg_logic.specs.Declarations.{Name, Declarations, name_of}
 use Rattle.pg_grammar.specs.Shapes.{ForAll, Exists}
 use Rattle.pg_grammar.specs.Printing.{Join, Arrow, Either, Both, Equals, AtMost, Below, Sum, Product, Raised, Tree, Trees, Ended, Also, Call, Number, Never, After, Node, Bind}
+use Rattle.pg_meaning.specs.Scope.{Scope}
 use Rattle.pg_spelling.specs.Fresh.{fresh}
 
--- The names under which a tree is printed: those of the free variables by number, where a dead one has none; the
--- printed names of the binders around, the innermost first; and what is declared.
-pub record Scope : Type 0 where
-  pub vars : List (Option Name)
-  pub binders : List Name
-  pub declared : Declarations
-
--- outside of all binders
-abbrev pub outside : List (Option Name) → Declarations → Scope
-outside vars declared = record { vars = vars; binders = []; declared = declared }
-
+-- inside a binder of this printed name
 abbrev pub under : Name → Scope → Scope
 under x s = record { vars = s.vars; binders = x ∷ s.binders; declared = s.declared }
 

@@ -3,7 +3,8 @@ use Rattle.std.specs.Prelude.{ℕ, List, [], ◌∷◌, ◌++◌, codes}
 use Rattle.pg_logic.specs.Tree.{Tm, Fm}
 use Rattle.pg_grammar.specs.Shapes.{Op, Implies, Or, And, Equal, NotEqual, LessEqual, Less, Plus, Times, Power, Quantifier, ForAll, Exists, Word, Group, Bracket, Binders, Plain, Typed, Grouped, Shape, Named, Numeral, Falsum, Paren, Next, App, Neg, Quant, Binary}
 use Rattle.pg_grammar.specs.Printing.{shape_of}
-use Rattle.pg_spelling.specs.Named.{Scope, named, named_formula}
+use Rattle.pg_meaning.specs.Scope.{Scope}
+use Rattle.pg_spelling.specs.Named.{named, named_formula}
 
 -- the signs, as the bytes of their characters
 abbrev pub op_text : Op → List ℕ

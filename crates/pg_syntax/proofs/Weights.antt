@@ -10,7 +10,8 @@ use Rattle.pg_grammar.specs.Printing.{Join, Arrow, Either, Both, Equals, AtMost,
 use Rattle.std.specs.Str.{bytes_eq}
 use Rattle.pg_terms.specs.declared.term.Term.{Term}
 use Rattle.pg_terms.specs.View.{term, args}
-use Rattle.pg_spelling.specs.Named.{Scope, name_at, predicate_names, named, named_all, named_formula, at_arguments, alone, between, begins_with_digit, sign_in, sign_named}
+use Rattle.pg_meaning.specs.Scope.{Scope}
+use Rattle.pg_spelling.specs.Named.{name_at, predicate_names, named, named_all, named_formula, at_arguments, alone, between, begins_with_digit, sign_in, sign_named}
 use Rattle.pg_spelling.specs.Written.{written}
 use Rattle.pg_syntax.specs.Places.{weight, operand_text, is_falsum, is_equation}
 use Rattle.pg_syntax.specs.Texts.{arguments_text}

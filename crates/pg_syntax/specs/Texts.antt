@@ -4,7 +4,8 @@ use Rattle.pg_logic.specs.Tree.{Tms, none, arg, Fm}
 use Rattle.pg_logic.specs.Declarations.{Name}
 use Rattle.pg_grammar.specs.Shapes.{Quantifier}
 use Rattle.pg_grammar.specs.Printing.{shape_of, Bind}
-use Rattle.pg_spelling.specs.Named.{Scope, named, named_formula, taken, under}
+use Rattle.pg_meaning.specs.Scope.{Scope}
+use Rattle.pg_spelling.specs.Named.{named, named_formula, taken, under}
 use Rattle.pg_spelling.specs.Fresh.{fresh}
 use Rattle.pg_spelling.specs.Written.{written}
 use Rattle.pg_syntax.specs.Places.{operand_text}

@@ -8,7 +8,8 @@ ghost use Rattle.pg_grammar.specs.Printing.{Bind, shape_of, joined, node_shape, 
 ghost use Rattle.pg_shape.specs.View.{op, quantifier};
 ghost use Rattle.pg_spelling.specs.Fresh.{fresh};
 ghost use Rattle.pg_logic.specs.Tree.{imp};
-ghost use Rattle.pg_spelling.specs.Named.{outside, named_formula};
+ghost use Rattle.pg_meaning.specs.Scope.{outermost};
+ghost use Rattle.pg_spelling.specs.Named.{named_formula};
 ghost use Rattle.pg_spelling.specs.Written.{quantifier_text, written, printed, printed_formula};
 ghost use Rattle.pg_syntax.specs.Places.{scope_under, weight, operand_text, is_falsum, Sides};
 ghost use Rattle.pg_syntax.specs.Texts.{bound_text};
@@ -226,7 +227,7 @@ pub fn print_formula(
     names: &Names,
     sig: &Signature,
 ) -> Result<String, AllocError>
-    ensures { IfOk result (λ text. string_bytes text ≡ printed_formula (outside (names.now.vars.items) (declarations sig.now)) (view.formula formula.now)) }
+    ensures { IfOk result (λ text. string_bytes text ≡ printed_formula (outermost (names.now.vars.items) (declarations sig.now)) (view.formula formula.now)) }
 {
     let cx = Context { names, sig };
     let p = Printer { alloc, cx: &cx };
@@ -243,7 +244,7 @@ pub fn print_term(
     names: &Names,
     sig: &Signature,
 ) -> Result<String, AllocError>
-    ensures { IfOk result (λ text. string_bytes text ≡ printed (outside (names.now.vars.items) (declarations sig.now)) (view.term term.now)) }
+    ensures { IfOk result (λ text. string_bytes text ≡ printed (outermost (names.now.vars.items) (declarations sig.now)) (view.term term.now)) }
 {
     let mut out = String::new(alloc);
     let place = Place {

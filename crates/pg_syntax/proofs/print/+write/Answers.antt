@@ -3,7 +3,8 @@ use Rattle.pg_terms.specs.View.{term, formula}
 use Rattle.pg_logic.specs.Tree.{Fm, imp}
 use Rattle.pg_grammar.specs.Shapes.{NotEqual}
 use Rattle.pg_grammar.specs.Printing.{shape_of, joined}
-use Rattle.pg_spelling.specs.Named.{Scope, named, named_formula}
+use Rattle.pg_meaning.specs.Scope.{Scope}
+use Rattle.pg_spelling.specs.Named.{named, named_formula}
 use Rattle.pg_spelling.specs.Written.{written, printed_formula}
 use Rattle.pg_syntax.specs.Places.{scope, scope_under, operand_text, is_falsum}
 use Rattle.pg_syntax.proofs.Weights.{denied-whole, unequal-whole, on_ok, behind}
