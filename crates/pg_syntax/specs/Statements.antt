@@ -26,9 +26,3 @@ abbrev pub total : List Binder → Fm → ℕ
 total [] target = nodes_of target
 total (Var x ∷ more) target = total more target + 1
 total (Hyp h a ∷ more) target = nodes_of (formula a) + total more target + 1
-
--- how many variables
-abbrev pub variables : List Binder → ℕ
-variables [] = 0
-variables (Var x ∷ more) = variables more + 1
-variables (Hyp h a ∷ more) = variables more

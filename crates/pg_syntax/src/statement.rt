@@ -1,8 +1,8 @@
 //! Statements, and their closed formulas.
-ghost use Rattle.std.specs.Prelude.{◌≡◌, ◌<◌, ◌^◌, ◌+◌, IfOk, IsTrue, length, drop};
+ghost use Rattle.std.specs.Prelude.{◌≡◌, ◌<◌, ◌^◌, ◌+◌, IfOk, IsTrue};
 ghost use Rattle.pg_logic.specs.Tree as tree;
 ghost use Rattle.pg_terms.specs.View.{formula};
-ghost use Rattle.pg_syntax.specs.Statements.{closed, closed_from, AreTight, total, variables};
+ghost use Rattle.pg_syntax.specs.Statements.{closed, closed_from, AreTight, total};
 
 use pg_terms::{Formula, Name};
 use sqlite_items::Boxed;
@@ -22,20 +22,6 @@ pub enum Binder {
 pub struct Statement {
     pub binders: Vec<Binder>,
     pub target: Formula,
-}
-
-/// How many of these are variables.
-fn variable_count(binders: &[Binder]) -> u32
-    requires { length binders.now < 2 ^ 32 }
-    ensures { result ≡ variables binders.now }
-{
-    let mut count = 0;
-    for binder in binders {
-        if let Binder::Var(_) = binder {
-            count += 1;
-        }
-    }
-    count
 }
 
 /// A formula under a universal quantifier, closed over a free variable.
@@ -65,6 +51,33 @@ fn implication(
     Boxed::new(alloc, Formula::Imp(a, b))
 }
 
+/// The formula of these binders and the target, where so many variables stand before.
+#[tactic(auto, using(crate::proofs::Closing::closing))]
+fn closed_from(
+    alloc: Global,
+    binders: &[Binder],
+    before: u32,
+    target: &Formula,
+) -> Result<Boxed<Formula>, AllocError>
+    requires tight { AreTight binders.now (formula target.now) }
+    requires small { before + total binders.now (formula target.now) < 2 ^ 32 }
+    ensures { IfOk result (λ a. formula a ≡ closed_from before binders.now (formula target.now)) }
+{
+    let [first, more @ ..] = binders else {
+        return Boxed::new(alloc, target.copied(alloc)?);
+    };
+    match first {
+        Binder::Var(name) => {
+            let body = closed_from(alloc, more, before + 1, target)?;
+            quantified(alloc, name, before, body.get())
+        }
+        Binder::Hyp(_, a) => {
+            let body = closed_from(alloc, more, before, target)?;
+            implication(alloc, a, body)
+        }
+    }
+}
+
 /// The closed formula of a statement: `∀` for a variable and `→` for a hypothesis, the first binder
 /// outermost (docs/LOGIC.md, "Statements"). No formula of the statement has a loose bound variable,
 /// each free variable of one is below the number of variables before it, and the binders and the
@@ -74,16 +87,7 @@ pub fn statement_formula(alloc: Global, statement: &Statement) -> Result<Formula
     requires small { total statement.now.binders.items (formula statement.now.target) < 2 ^ 32 }
     ensures { IfOk result (λ a. formula a ≡ closed statement.now.binders.items (formula statement.now.target)) }
 {
-    let mut made = Boxed::new(alloc, statement.target.copied(alloc)?)?;
-    let mut left = variable_count(statement.binders.as_slice());
-    for binder in statement.binders.iter().rev() {
-        made = match binder {
-            Binder::Var(name) => {
-                left -= 1;
-                quantified(alloc, name, left, made.get())?
-            }
-            Binder::Hyp(_, a) => implication(alloc, a, made)?,
-        };
-    }
+    let binders = statement.binders.as_slice();
+    let made = closed_from(alloc, binders, 0, &statement.target)?;
     Ok(made.into_inner())
 }
