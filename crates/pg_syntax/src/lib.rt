@@ -5,6 +5,8 @@ mod fresh;
 mod names;
 mod print;
 mod statement;
+#[cfg(test)]
+mod tests;
 mod written;
 
 pub use fresh::fresh_name;
