@@ -172,13 +172,15 @@ fn to_the_left(alloc: Global) -> Result<Boxed<Term>, AllocError> {
     call_two(alloc, 0, left, c)
 }
 
-/// `^ 1`, and `^ (succ 0)` under `succ`.
-fn sign_before(alloc: Global) -> Result<[Boxed<Term>; 2], AllocError> {
-    let one = Boxed::new(alloc, Term::App(1, Items::new(alloc)))?;
-    let first = call_one(alloc, 2, one)?;
+/// `^ 1`
+fn sign_before(alloc: Global) -> Result<Boxed<Term>, AllocError> {
+    call_one(alloc, 2, Boxed::new(alloc, Term::App(1, Items::new(alloc)))?)
+}
+
+/// `succ (^ (succ 0))`
+fn sign_inside(alloc: Global) -> Result<Boxed<Term>, AllocError> {
     let inner = call_one(alloc, 2, succ(alloc, Term::Zero)?)?;
-    let second = succ(alloc, inner.into_inner())?;
-    Ok([first, second])
+    succ(alloc, inner.into_inner())
 }
 
 #[test]
@@ -194,9 +196,10 @@ fn a_sum_has_parentheses_on_the_right(rt: HostRuntime) -> Result<(), Fail> {
 #[test]
 fn a_sign_with_one_argument_stands_before_it(rt: HostRuntime) -> Result<(), Fail> {
     let alloc = rt.alloc();
-    let [first, second] = sign_before(alloc)?;
-    assert!(rt; prints_term(alloc, first.get(), "^ 1")?);
-    assert!(rt; prints_term(alloc, second.get(), "succ (^ (succ 0))")?);
+    let before = sign_before(alloc)?;
+    assert!(rt; prints_term(alloc, before.get(), "^ 1")?);
+    let inside = sign_inside(alloc)?;
+    assert!(rt; prints_term(alloc, inside.get(), "succ (^ (succ 0))")?);
     Ok(())
 }
 
