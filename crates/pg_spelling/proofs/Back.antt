@@ -19,6 +19,7 @@ use Rattle.pg_meaning.specs.Live.{is_named, is_live, are_live, is_live_formula}
 use Rattle.pg_spelling.specs.Fresh.{fresh, is_taken}
 use Rattle.pg_spelling.specs.Named.{under, live, function_names, predicate_names, declared_names, taken, name_at, live_name, variable, sign_in, sign_named, begins_with_digit, alone, between, at_arguments, named, named_all, named_formula}
 use Rattle.pg_spelling.specs.Back.{AllDiffer, CanName, CanTell, AreNamed, renamed, HasRoom, ReadsBack, TermReadsBack, BackLaw, TermBackLaw}
+use Rattle.pg_grammar.proofs.Printing.{printing-law}
 use Rattle.pg_spelling.proofs.Fresh.{by_bool, fresh-law}
 use Rattle.pg_spelling.proofs.Places.{IsApart, apart-under, apart-outermost, place-named, equal}
 
@@ -221,7 +222,7 @@ needs-predicate s p n one is e = ap (λ o. unwrap_or (option_map (λ (q : NamedP
 call-term : (s : Scope) → Ready s → (f : ℕ) (one : NamedFunction) (ts : Tms) → slice_get s.declared.functions f ≡ Some one → arity_of one ≡ count ts → AllTerms s (shapes_of (named_all s ts)) ts
     → IsTerm s (shape_of (Call (name_of one) (named_all s ts))) (app f ts)
 unfolding behind
-call-term s r f one ts is e all =
+call-term s r f one ts is e each =
     let found : looked_up s (name_of one) ≡ Some (Function f) = r.apart.function f (name_of one) (named-function s f one is) in
     let needs : name_needs s (name_of one) ≡ Some (count ts) = ap (option_map (thing_needs s.declared)) found ∙ ap Some (needs-function s f (count ts) one is e) in
     applied-means s TermSort (term_of s) (app f) (count ts) (term-takes s f) (Named (unplaced (name_of one))) none (shapes_of (named_all s ts)) ts
@@ -230,12 +231,12 @@ call-term s r f one ts is e all =
       head = λ n. let z : n ≡ n + 0 = omega arith in ap₂ (λ i o. use_fault 0 i o) z needs;
       parts = refl;
       means = ap thing_term found;
-    }) all (omega arith)
+    }) each (omega arith)
 
 call-formula : (s : Scope) → Ready s → (p : ℕ) (one : NamedPredicate) (ts : Tms) → slice_get s.declared.predicates p ≡ Some one → one.arity ≡ count ts → AllTerms s (shapes_of (named_all s ts)) ts
     → IsFormula s (shape_of (Call one.name (named_all s ts))) (pred p ts)
 unfolding behind
-call-formula s r p one ts is e all =
+call-formula s r p one ts is e each =
     let found : looked_up s one.name ≡ Some (Predicate p) = r.apart.predicate p one.name (named-predicate s p one is) in
     let needs : name_needs s one.name ≡ Some (count ts) = ap (option_map (thing_needs s.declared)) found ∙ ap Some (needs-predicate s p (count ts) one is e) in
     applied-means s FormulaSort (formula_of s) (pred p) (count ts) (formula-takes s p) (Named (unplaced one.name)) none (shapes_of (named_all s ts)) ts
@@ -244,7 +245,7 @@ call-formula s r p one ts is e all =
       head = λ n. let z : n ≡ n + 0 = omega arith in ap₂ (λ i o. use_fault 0 i o) z needs;
       parts = refl;
       means = ap thing_formula found;
-    }) all (omega arith)
+    }) each (omega arith)
 
 -- ---- a name alone
 
@@ -385,17 +386,17 @@ two-formula s r p one a b is e m k = go (sign_named one.name) (begins_with_digit
 
 at-term : (s : Scope) → Ready s → (f : ℕ) (one : NamedFunction) (ts : Tms) → slice_get s.declared.functions f ≡ Some one → arity_of one ≡ count ts → AllTerms s (shapes_of (named_all s ts)) ts
     → IsTerm s (shape_of (at_arguments (name_of one) (named_all s ts))) (app f ts)
-at-term s r f one none is e all = alone-term s r f one is e
-at-term s r f one (arg a none) is e all = call-term s r f one (arg a none) is e all
-at-term s r f one (arg a (arg b none)) is e all = two-term s r f one a b is e all.0 all.1.0
-at-term s r f one (arg a (arg b (arg d ts))) is e all = call-term s r f one (arg a (arg b (arg d ts))) is e all
+at-term s r f one none is e each = alone-term s r f one is e
+at-term s r f one (arg a none) is e each = call-term s r f one (arg a none) is e each
+at-term s r f one (arg a (arg b none)) is e each = two-term s r f one a b is e each.0 each.1.0
+at-term s r f one (arg a (arg b (arg d ts))) is e each = call-term s r f one (arg a (arg b (arg d ts))) is e each
 
 at-formula : (s : Scope) → Ready s → (p : ℕ) (one : NamedPredicate) (ts : Tms) → slice_get s.declared.predicates p ≡ Some one → one.arity ≡ count ts → AllTerms s (shapes_of (named_all s ts)) ts
     → IsFormula s (shape_of (at_arguments one.name (named_all s ts))) (pred p ts)
-at-formula s r p one none is e all = alone-formula s r p one is e
-at-formula s r p one (arg a none) is e all = call-formula s r p one (arg a none) is e all
-at-formula s r p one (arg a (arg b none)) is e all = two-formula s r p one a b is e all.0 all.1.0
-at-formula s r p one (arg a (arg b (arg d ts))) is e all = call-formula s r p one (arg a (arg b (arg d ts))) is e all
+at-formula s r p one none is e each = alone-formula s r p one is e
+at-formula s r p one (arg a none) is e each = call-formula s r p one (arg a none) is e each
+at-formula s r p one (arg a (arg b none)) is e each = two-formula s r p one a b is e each.0 each.1.0
+at-formula s r p one (arg a (arg b (arg d ts))) is e each = call-formula s r p one (arg a (arg b (arg d ts))) is e each
 
 -- ---- terms
 
@@ -442,3 +443,166 @@ mutual
       let p = and_parts _ _ h in
       let q = and_parts _ _ l in
       (term-back s r n t p.0 q.0, terms-back s r n ts p.1 q.1)
+
+-- ---- formulas
+
+below-binder : (s : Scope) (y : Name) → Ready s → is_taken (taken s) y ≡ false → Ready (under y s)
+below-binder s y r e = record { apart = apart-under s y r.apart e; differ = r.differ; fit = r.fit }
+
+joined-formula : (s : Scope) (op : Op) (l r : Shape) (a b c : Fm) → sign_sort op ≡ FormulaSort → operand_sort op ≡ FormulaSort → sign_needs s op ≡ Some 2
+    → IsFormula s l a → IsFormula s r b → ((x y : Shape) → formula_of s x ≡ a → formula_of s y ≡ b → formula_of s (Binary 0 op x y) ≡ c) → IsFormula s (joined op l r) c
+joined-formula s op l r a b c so oo needs m k means =
+    let ml : IsFormula s (operand (left_min op) l) a = formula-operand s (left_min op) l a m in
+    let mr : IsFormula s (operand (right_min op) r) b = formula-operand s (right_min op) r b k in
+    record {
+      sorted = ap Some so;
+      head = ap (use_fault 0 2) needs ∙ use_right 2 2 refl;
+      parts =
+          ap (λ want. option_or (own_or s want (operand (left_min op) l) (parts_fault s (operand (left_min op) l))) (own_or s want (operand (right_min op) r) (parts_fault s (operand (right_min op) r)))) oo
+          ∙ or_none _ _ (formula-faultless s (operand (left_min op) l) a ml) (formula-faultless s (operand (right_min op) r) b mr);
+      means = means (operand (left_min op) l) (operand (right_min op) r) ml.means mr.means;
+    }
+
+neg-formula : (s : Scope) (l : Shape) (a : Fm) → IsFormula s l a → IsFormula s (Neg 0 (operand 40 l)) (denied a)
+neg-formula s l a m =
+    let k : IsFormula s (operand 40 l) a = formula-operand s 40 l a m in
+    record { sorted = refl; head = refl; parts = formula-faultless s (operand 40 l) a k; means = ap denied k.means }
+
+negated-formula : (s : Scope) (l : Shape) (a : Fm) → IsFormula s l a → IsFormula s (negated l) (denied a)
+negated-formula s (Binary at Equal x y) a m = record { sorted = refl; head = m.head; parts = m.parts; means = ap denied m.means }
+negated-formula s l a m = neg-formula s l a m
+
+equal-formula : (s : Scope) (l r : Shape) (a b : Tm) → IsTerm s l a → IsTerm s r b → IsFormula s (joined Equal l r) (eq a b)
+equal-formula s l r a b m k =
+    record {
+      sorted = refl;
+      head = refl;
+      parts = two_faultless s Equal l r a b refl m k;
+      means = ap₂ eq ((term-operand s 51 l a m).means) ((term-operand s 51 r b k).means);
+    }
+
+-- only False has its tree
+arrow-other : (s : Scope) (a b : Fm) → (b ≡ falsum → ⊥) → shape_of (named_formula s (imp a b)) ≡ joined Implies (shape_of (named_formula s a)) (shape_of (named_formula s b))
+arrow-other s a falsum h = absurd (h refl)
+arrow-other s a (eq t u) h = refl
+arrow-other s a (pred p none) h = go (begins_with_digit (name_at (predicate_names s.declared) p))
+  where
+    go : (c : Bool) → node_shape Arrow (shape_of (named_formula s a)) (cond c (Number (name_at (predicate_names s.declared) p)) (Call (name_at (predicate_names s.declared) p) Ended)) (shape_of (cond c (Number (name_at (predicate_names s.declared) p)) (Call (name_at (predicate_names s.declared) p) Ended)))
+        ≡ joined Implies (shape_of (named_formula s a)) (shape_of (cond c (Number (name_at (predicate_names s.declared) p)) (Call (name_at (predicate_names s.declared) p) Ended)))
+    go true = refl
+    go false = refl
+arrow-other s a (pred p (arg t none)) h = refl
+arrow-other s a (pred p (arg t (arg u none))) h = go (sign_named (name_at (predicate_names s.declared) p))
+  where
+    go : (o : Option Join) → node_shape Arrow (shape_of (named_formula s a)) (between o (name_at (predicate_names s.declared) p) (named s t) (named s u)) (shape_of (between o (name_at (predicate_names s.declared) p) (named s t) (named s u)))
+        ≡ joined Implies (shape_of (named_formula s a)) (shape_of (between o (name_at (predicate_names s.declared) p) (named s t) (named s u)))
+    go None = refl
+    go (Some j) = refl
+arrow-other s a (pred p (arg t (arg u (arg v ts)))) h = refl
+arrow-other s a (and c d) h = refl
+arrow-other s a (or c d) h = refl
+arrow-other s a (imp c d) h = refl
+arrow-other s a (all x c) h = refl
+arrow-other s a (ex x c) h = refl
+
+arrow-formula : (s : Scope) (a b c d : Fm) → (b ≡ falsum → ⊥) → IsFormula s (shape_of (named_formula s a)) c → IsFormula s (shape_of (named_formula s b)) d → IsFormula s (shape_of (named_formula s (imp a b))) (imp c d)
+arrow-formula s a b c d other m k =
+    let P : Shape → Type 0 = λ x. IsFormula s x (imp c d) in
+    subst P (sym (arrow-other s a b other)) (joined-formula s Implies (shape_of (named_formula s a)) (shape_of (named_formula s b)) c d (imp c d) refl refl refl m k (λ x y e f. ap₂ imp e f))
+
+formula-back : (s : Scope) → Ready s → (n : ℕ) (a : Fm) → fits (signature_of s.declared) n (length s.binders) a ≡ true → is_live_formula s.vars a ≡ true → HasRoom s a
+    → IsFormula s (shape_of (named_formula s a)) (renamed s a)
+formula-back s r n falsum h l room = record { sorted = refl; head = refl; parts = refl; means = refl }
+formula-back s r n (eq a b) h l room =
+    let p = and_parts _ _ h in
+    let q = and_parts _ _ l in
+    equal-formula s (shape_of (named s a)) (shape_of (named s b)) a b (term-back s r n a p.0 q.0) (term-back s r n b p.1 q.1)
+formula-back s r n (pred p ts) h l room =
+    let q = and_parts _ _ h in
+    let d : Told s.declared p (count ts) = told s.declared p (count ts) q.0 in
+    let x : name_at (predicate_names s.declared) p ≡ d.one.name = name-get (predicate_names s.declared) p d.one.name (named-predicate s p d.one d.is) in
+    let P : Name → Type 0 = λ y. IsFormula s (shape_of (at_arguments y (named_all s ts))) (pred p ts) in
+    subst P (sym x) (at-formula s r p d.one ts d.is d.arity (terms-back s r n ts q.1 l))
+formula-back s r n (and a b) h l room =
+    let p = and_parts _ _ h in
+    let q = and_parts _ _ l in
+    joined-formula s And (shape_of (named_formula s a)) (shape_of (named_formula s b)) (renamed s a) (renamed s b) (and (renamed s a) (renamed s b)) refl refl refl
+    (formula-back s r n a p.0 q.0 room.0) (formula-back s r n b p.1 q.1 room.1) (λ x y e f. ap₂ and e f)
+formula-back s r n (or a b) h l room =
+    let p = and_parts _ _ h in
+    let q = and_parts _ _ l in
+    joined-formula s Or (shape_of (named_formula s a)) (shape_of (named_formula s b)) (renamed s a) (renamed s b) (or (renamed s a) (renamed s b)) refl refl refl
+    (formula-back s r n a p.0 q.0 room.0) (formula-back s r n b p.1 q.1 room.1) (λ x y e f. ap₂ or e f)
+formula-back s r n (imp a falsum) h l room =
+    let p = and_parts _ _ h in
+    let q = and_parts _ _ l in
+    negated-formula s (shape_of (named_formula s a)) (renamed s a) (formula-back s r n a p.0 q.0 room.0)
+formula-back s r n (imp a b) h l room =
+    let p = and_parts _ _ h in
+    let q = and_parts _ _ l in
+    arrow-formula s a b (renamed s a) (renamed s b) (λ e. cc) (formula-back s r n a p.0 q.0 room.0) (formula-back s r n b p.1 q.1 room.1)
+formula-back s r n (all x a) h l room =
+    let y : Name = fresh (taken s) x in
+    let m : IsFormula (under y s) (shape_of (named_formula (under y s) a)) (renamed (under y s) a) =
+    formula-back (under y s) (below-binder s y r ((fresh-law (taken s) x room.0).free)) n a (deeper h) l room.1 in
+    record { sorted = refl; head = refl; parts = formula-faultless (under y s) (shape_of (named_formula (under y s) a)) (renamed (under y s) a) m; means = ap (all y) m.means }
+  where
+    deeper : fits (signature_of s.declared) n (length s.binders + 1) a ≡ true → fits (signature_of s.declared) n (suc (length s.binders)) a ≡ true
+    deeper e = let k : length s.binders + 1 ≡ suc (length s.binders) = omega arith in ap (λ d. fits (signature_of s.declared) n d a) (sym k) ∙ e
+formula-back s r n (ex x a) h l room =
+    let y : Name = fresh (taken s) x in
+    let m : IsFormula (under y s) (shape_of (named_formula (under y s) a)) (renamed (under y s) a) =
+    formula-back (under y s) (below-binder s y r ((fresh-law (taken s) x room.0).free)) n a (deeper h) l room.1 in
+    record { sorted = refl; head = refl; parts = formula-faultless (under y s) (shape_of (named_formula (under y s) a)) (renamed (under y s) a) m; means = ap (ex y) m.means }
+  where
+    deeper : fits (signature_of s.declared) n (length s.binders + 1) a ≡ true → fits (signature_of s.declared) n (suc (length s.binders)) a ≡ true
+    deeper e = let k : length s.binders + 1 ≡ suc (length s.binders) = omega arith in ap (λ d. fits (signature_of s.declared) n d a) (sym k) ∙ e
+
+-- ---- the same up to names
+
+mutual
+  same-term : (t : Tm) → same t t ≡ true
+  same-term (free i) = eq-eqb i i refl
+  same-term (bound i) = eq-eqb i i refl
+  same-term nought = refl
+  same-term (succ t) = same-term t
+  same-term (app f ts) = and_from _ _ (eq-eqb f f refl) (same-terms ts)
+
+  same-terms : (ts : Tms) → same_all ts ts ≡ true
+  same-terms none = refl
+  same-terms (arg t ts) = and_from _ _ (same-term t) (same-terms ts)
+
+same-renamed : (s : Scope) (a : Fm) → same_formula a (renamed s a) ≡ true
+same-renamed s falsum = refl
+same-renamed s (eq a b) = and_from _ _ (same-term a) (same-term b)
+same-renamed s (pred p ts) = and_from _ _ (eq-eqb p p refl) (same-terms ts)
+same-renamed s (and a b) = and_from _ _ (same-renamed s a) (same-renamed s b)
+same-renamed s (or a b) = and_from _ _ (same-renamed s a) (same-renamed s b)
+same-renamed s (imp a b) = and_from _ _ (same-renamed s a) (same-renamed s b)
+same-renamed s (all x a) = same-renamed (under (fresh (taken s) x) s) a
+same-renamed s (ex x a) = same-renamed (under (fresh (taken s) x) s) a
+
+-- ---- the laws
+
+all-second : (xs ys : List Name) → AllDiffer (xs ++ ys) → AllDiffer ys
+all-second [] ys h = h
+all-second (x ∷ xs) ys h = all-second xs ys h.1
+
+ready : (vars : List (Option Name)) (d : Declarations) → AllDiffer (live vars ++ declared_names d) → AreNamed d → Ready (outermost vars d)
+ready vars d h k = record { apart = apart-outermost vars d h; differ = all-second (live vars) (declared_names d) h; fit = k }
+
+pub term-back-law : TermBackLaw
+term-back-law vars d t h k fit living =
+    let m : IsTerm (outermost vars d) (shape_of (named (outermost vars d) t)) t = term-back (outermost vars d) (ready vars d h k) (length vars) t fit living in
+    record { shape = (printing-law (named (outermost vars d) t)).shape; faultless = term-faultless (outermost vars d) (shape_of (named (outermost vars d) t)) t m; means = m.means }
+
+pub back-law : BackLaw
+back-law vars d a h k fit living room =
+    let s : Scope = outermost vars d in
+    let m : IsFormula s (shape_of (named_formula s a)) (renamed s a) = formula-back s (ready vars d h k) (length vars) a fit living room in
+    record {
+      shape = (printing-law (named_formula s a)).shape;
+      faultless = formula-faultless s (shape_of (named_formula s a)) (renamed s a) m;
+      means = m.means;
+      same = same-renamed s a;
+    }
