@@ -1,6 +1,6 @@
 -- What is printed means the same again.
-use Rattle.std.proofs.Common.{◌≡◌, ℕ, zero, suc, ◌+◌, ◌<◌, ◌≤◌, ◌^◌, Bool, true, false, cond, ◌||◌, ◌&&◌, List, [], ◌∷◌, ◌++◌, length, map, codes, refl, ap, ap₂, sym, ◌∙◌, subst, append-nil, arith}
-use Rattle.std.specs.Prelude.{Option, Some, None, option_map, unwrap_or, nat_lt, slice_get, slice_index_or, position, ◌==◌}
+use Rattle.std.proofs.Common.{◌≡◌, ℕ, zero, suc, ◌+◌, ◌<◌, Bool, true, false, cond, ◌||◌, List, [], ◌∷◌, ◌++◌, length, codes, refl, ap, ap₂, sym, ◌∙◌, subst, append-nil, arith}
+use Rattle.std.specs.Prelude.{Option, Some, None, option_map, unwrap_or, nat_lt, slice_get, ◌==◌}
 use Rattle.std.specs.Option.{option_or}
 use Rattle.std.specs.Str.{bytes_eq}
 use Rattle.std.proofs.lemmas.Bool.{and_parts, and_from, false≢true, ltb-true, eqb-true, eq-eqb}
@@ -9,16 +9,16 @@ use Rattle.pg_logic.specs.Tree.{Tm, free, bound, nought, succ, app, Tms, none, a
 use Rattle.pg_logic.specs.Declarations.{Name, NamedFunction, by_recursion, by_term, NamedPredicate, Declarations, name_of, arity_of, function_of, predicate_of, signature_of}
 use Rattle.pg_logic.specs.Signature as logic
 use Rattle.pg_logic.specs.Signature.{fits, fits_term, fits_terms, count, takes, holds_of}
-use Rattle.pg_grammar.specs.Shapes.{Op, Implies, Or, And, Equal, NotEqual, LessEqual, Less, Plus, Times, Power, Quantifier, ForAll, Exists, Shape, Named, Numeral, Falsum, Paren, Next, App, Neg, Quant, Binary, left_min, right_min, strength, IsShape}
-use Rattle.pg_grammar.specs.Printing.{Join, Arrow, Either, Both, Equals, AtMost, Below, Sum, Product, Raised, sign_of, Tree, Trees, Ended, Also, Call, Number, Never, Node, Bind, is_quant, operand, joined, negated, node_shape, applied, unplaced, one_name, shape_of, shapes_of}
-use Rattle.pg_meaning.specs.Scope.{Scope, outermost, Thing, Binder, Variable, Function, Predicate, function_named, predicate_named, looked_up, function_needs, predicate_needs, thing_needs, name_needs, number_needs, sign_needs, sign_text, is_zero}
-use Rattle.pg_meaning.specs.Faults.{sign_sort, operand_sort, Sort, TermSort, FormulaSort, Fault, thing_sort, sort, use_fault, head_fault, own_or, parts_fault, first_fault, own_fault, misfit, beginning}
+use Rattle.pg_grammar.specs.Shapes.{Op, Implies, Or, And, Equal, LessEqual, Less, Plus, Times, Power, Shape, Named, Numeral, Paren, App, Neg, Binary, left_min, right_min, strength}
+use Rattle.pg_grammar.specs.Printing.{Join, Arrow, Either, Both, Equals, AtMost, Below, Sum, Product, Raised, sign_of, Ended, Call, Number, is_quant, operand, joined, negated, node_shape, applied, unplaced, shape_of, shapes_of}
+use Rattle.pg_meaning.specs.Scope.{Scope, outermost, Binder, Variable, Function, Predicate, function_named, predicate_named, looked_up, function_needs, predicate_needs, thing_needs, name_needs, sign_needs, sign_text, is_zero}
+use Rattle.pg_meaning.specs.Faults.{sign_sort, operand_sort, Sort, TermSort, FormulaSort, Fault, thing_sort, sort, use_fault, head_fault, own_or, parts_fault, misfit, beginning}
 use Rattle.pg_meaning.specs.Meaning.{thing_term, thing_formula, term_of, formula_of, with_last, holds_at, denied, function_term, predicate_formula}
 use Rattle.pg_meaning.specs.Meaning as meaning
 use Rattle.pg_meaning.specs.Live.{is_named, is_live, are_live, is_live_formula}
 use Rattle.pg_spelling.specs.Fresh.{fresh, is_taken}
-use Rattle.pg_spelling.specs.Named.{under, live, function_names, predicate_names, declared_names, taken, name_at, live_name, variable, sign_in, sign_named, begins_with_digit, alone, between, at_arguments, named, named_all, named_formula}
-use Rattle.pg_spelling.specs.Back.{AllDiffer, CanName, CanTell, AreNamed, renamed, HasRoom, ReadsBack, TermReadsBack, BackLaw, TermBackLaw}
+use Rattle.pg_spelling.specs.Named.{under, live, function_names, predicate_names, declared_names, taken, name_at, live_name, sign_in, sign_named, begins_with_digit, alone, between, at_arguments, named, named_all, named_formula}
+use Rattle.pg_spelling.specs.Back.{AllDiffer, CanName, CanTell, AreNamed, renamed, HasRoom, BackLaw, TermBackLaw}
 use Rattle.pg_grammar.proofs.Printing.{printing-law}
 use Rattle.pg_spelling.proofs.Fresh.{by_bool, fresh-law}
 use Rattle.pg_spelling.proofs.Places.{IsApart, apart-under, apart-outermost, place-named, equal}
@@ -592,14 +592,15 @@ ready : (vars : List (Option Name)) (d : Declarations) → AllDiffer (live vars 
 ready vars d h k = record { apart = apart-outermost vars d h; differ = all-second (live vars) (declared_names d) h; fit = k }
 
 pub term-back-law : TermBackLaw
-term-back-law vars d t h k fit living =
-    let m : IsTerm (outermost vars d) (shape_of (named (outermost vars d) t)) t = term-back (outermost vars d) (ready vars d h k) (length vars) t fit living in
-    record { shape = (printing-law (named (outermost vars d) t)).shape; faultless = term-faultless (outermost vars d) (shape_of (named (outermost vars d) t)) t m; means = m.means }
+term-back-law vars d t c =
+    let s : Scope = outermost vars d in
+    let m : IsTerm s (shape_of (named s t)) t = term-back s (ready vars d c.names.differ c.names.named) (length vars) t c.fitting c.living in
+    record { shape = (printing-law (named s t)).shape; faultless = term-faultless s (shape_of (named s t)) t m; means = m.means }
 
 pub back-law : BackLaw
-back-law vars d a h k fit living room =
+back-law vars d a c =
     let s : Scope = outermost vars d in
-    let m : IsFormula s (shape_of (named_formula s a)) (renamed s a) = formula-back s (ready vars d h k) (length vars) a fit living room in
+    let m : IsFormula s (shape_of (named_formula s a)) (renamed s a) = formula-back s (ready vars d c.names.differ c.names.named) (length vars) a c.fitting c.living c.room in
     record {
       shape = (printing-law (named_formula s a)).shape;
       faultless = formula-faultless s (shape_of (named_formula s a)) (renamed s a) m;

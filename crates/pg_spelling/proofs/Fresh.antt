@@ -1,5 +1,5 @@
 -- A fresh name is free, and its number the least: of more numbers than there are names one is free.
-use Rattle.std.proofs.Common.{◌≡◌, ℕ, zero, suc, ◌+◌, ◌-◌, ◌%◌, ◌^◌, ◌<◌, ◌≤◌, ◌==◌, Bool, true, false, cond, ◌||◌, ◌&&◌, not, List, [], ◌∷◌, ◌++◌, length, codes, sym, ◌∙◌, ap, refl, subst, arith, decimal}
+use Rattle.std.proofs.Common.{◌≡◌, ℕ, zero, suc, ◌+◌, ◌%◌, ◌^◌, ◌<◌, ◌≤◌, ◌==◌, Bool, true, false, cond, ◌||◌, ◌&&◌, not, List, [], ◌∷◌, ◌++◌, length, codes, sym, ◌∙◌, ap, refl, subst, arith, decimal}
 use Rattle.std.specs.Char.{is_ascii_digit}
 use Rattle.std.specs.List.{list_any}
 use Rattle.std.specs.Str.{bytes_eq}
@@ -9,8 +9,8 @@ use Rattle.std.proofs.lemmas.Slice.Eq.{bytes_eq-Decides}
 use Rattle.std.proofs.lemmas.List.{append_cancel_left}
 use Rattle.std.proofs.lemmas.Fmt.{decimal_by_steps, decimal_injective}
 use Rattle.pg_logic.specs.Declarations.{Name}
-use Rattle.pg_base.specs.Reserved.{is_one_of, is_kept_word, is_game_word, is_level_word, is_passed_word, is_reserved}
-use Rattle.pg_spelling.specs.Fresh.{is_taken, stem, numbered, free_number, fresh, IsNumbered, IsFresh}
+use Rattle.pg_base.specs.Reserved.{is_one_of, is_reserved}
+use Rattle.pg_spelling.specs.Fresh.{is_taken, stem, numbered, free_number, IsFresh}
 use Rattle.pg_spelling.specs.Laws.{FreshLaw}
 
 pub or_from : (x y : Bool) → x ≡ false → y ≡ false → (x || y) ≡ false
@@ -132,10 +132,10 @@ free-least names front zero n k le lt = absurd (omega (arith, le, lt))
 free-least names front (suc room) n k le lt =
     by_bool (λ b. is_taken names (numbered front n) ≡ b → k < cond b (free_number names front room (n + 1)) n → is_taken names (numbered front k) ≡ true) (is_taken names (numbered front n))
     (λ _ is less.
-        by_bool (λ b. (n == k) ≡ b → is_taken names (numbered front k) ≡ true) (n == k)
-        (λ _ e. let same : n ≡ k = eqb_eq n k e in ap (λ i. is_taken names (numbered front i)) (sym same) ∙ is)
-        (λ _ e. free-least names front room (n + 1) k (eqb_above n k le e) less)
-        refl)
+    by_bool (λ b. (n == k) ≡ b → is_taken names (numbered front k) ≡ true) (n == k)
+    (λ _ e. let same : n ≡ k = eqb_eq n k e in ap (λ i. is_taken names (numbered front i)) (sym same) ∙ is)
+    (λ _ e. free-least names front room (n + 1) k (eqb_above n k le e) less)
+    refl)
     (λ _ is less. absurd (omega (arith, le, less)))
     refl lt
 
@@ -158,18 +158,18 @@ free-free zero (x ∷ xs) front n le lt = absurd (omega (arith, le))
 free-free (suc room) names front n le lt =
     by_bool (λ b. is_taken names (numbered front n) ≡ b → list_any (bytes_eq (numbered front (cond b (free_number names front room (n + 1)) n))) names ≡ false) (is_taken names (numbered front n))
     (λ _ is.
-        let x : Name = numbered front n in
-        let small : n < 2 ^ 64 = omega (arith, lt) in
-        let there : list_any (bytes_eq x) names ≡ true = or_true _ _ is (numbered-plain front n small) in
-        let fewer : length (without x names) ≤ room = omega (arith, without-fewer x names there, le) in
-        let apart : (k : ℕ) → n + 1 ≤ k → k < 2 ^ 64 → numbered front k ≡ x → ⊥ = λ k a b. numbered-apart front n k small b (omega (arith, a)) in
-        let same : free_number (without x names) front room (n + 1) ≡ free_number names front room (n + 1) =
-        free-same (without x names) names front room (n + 1)
-        (λ k a b. ap (λ y. y || is_reserved (numbered front k)) (without-same x (numbered front k) names (apart k a (omega (arith, b, lt))))) in
-        let bounds = free-bounds names front room (n + 1) in
-        let next = free-free room (without x names) front (n + 1) fewer (omega (arith, lt)) in
-        sym (without-same x (numbered front (free_number names front room (n + 1))) names (apart (free_number names front room (n + 1)) bounds.0 (omega (arith, bounds.1, lt))))
-        ∙ subst (λ i. list_any (bytes_eq (numbered front i)) (without x names) ≡ false) same next)
+    let x : Name = numbered front n in
+    let small : n < 2 ^ 64 = omega (arith, lt) in
+    let there : list_any (bytes_eq x) names ≡ true = or_true _ _ is (numbered-plain front n small) in
+    let fewer : length (without x names) ≤ room = omega (arith, without-fewer x names there, le) in
+    let apart : (k : ℕ) → n + 1 ≤ k → k < 2 ^ 64 → numbered front k ≡ x → ⊥ = λ k a b. numbered-apart front n k small b (omega (arith, a)) in
+    let same : free_number (without x names) front room (n + 1) ≡ free_number names front room (n + 1) =
+    free-same (without x names) names front room (n + 1)
+    (λ k a b. ap (λ y. y || is_reserved (numbered front k)) (without-same x (numbered front k) names (apart k a (omega (arith, b, lt))))) in
+    let bounds = free-bounds names front room (n + 1) in
+    let next = free-free room (without x names) front (n + 1) fewer (omega (arith, lt)) in
+    sym (without-same x (numbered front (free_number names front room (n + 1))) names (apart (free_number names front room (n + 1)) bounds.0 (omega (arith, bounds.1, lt))))
+    ∙ subst (λ i. list_any (bytes_eq (numbered front i)) (without x names) ≡ false) same next)
     (λ _ is. (or_parts _ _ is).0)
     refl
 
@@ -177,12 +177,12 @@ pub fresh-law : FreshLaw
 fresh-law names name room =
     by_bool (λ b. is_taken names name ≡ b → IsFresh names name (cond b (numbered (stem name) (free_number names (stem name) (length names) 1)) name)) (is_taken names name)
     (λ _ is.
-        let number : ℕ = free_number names (stem name) (length names) 1 in
-        let bounds = free-bounds names (stem name) (length names) 1 in
-        record {
-          free = or_from _ _ (free-free (length names) names (stem name) 1 (omega arith) (omega (arith, room))) (numbered-plain (stem name) number (omega (arith, bounds.1, room)));
-          stays = λ h. absurd (false≢true (sym h ∙ is));
-          numbered = λ h. record { number = number; is = refl; some = bounds.0; least = λ k a b. free-least names (stem name) (length names) 1 k a b };
-        })
+    let number : ℕ = free_number names (stem name) (length names) 1 in
+    let bounds = free-bounds names (stem name) (length names) 1 in
+    record {
+      free = or_from _ _ (free-free (length names) names (stem name) 1 (omega arith) (omega (arith, room))) (numbered-plain (stem name) number (omega (arith, bounds.1, room)));
+      stays = λ h. absurd (false≢true (sym h ∙ is));
+      numbered = λ h. record { number = number; is = refl; some = bounds.0; least = λ k a b. free-least names (stem name) (length names) 1 k a b };
+    })
     (λ _ is. record { free = is; stays = λ h. refl; numbered = λ h. absurd (false≢true (sym is ∙ h)) })
     refl

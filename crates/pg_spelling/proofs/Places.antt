@@ -1,6 +1,6 @@
 -- Where names stand in lists, and what they stand for under one binder more.
-use Rattle.std.proofs.Common.{◌≡◌, ℕ, zero, suc, ◌+◌, ◌<◌, ◌≤◌, Bool, true, false, cond, ◌||◌, List, [], ◌∷◌, ◌++◌, length, map, refl, ap, ap₂, sym, ◌∙◌, subst, append-nil, arith}
-use Rattle.std.specs.Prelude.{Option, Some, None, option_map, position, nat_lt, slice_get, slice_index_or}
+use Rattle.std.proofs.Common.{◌≡◌, ℕ, zero, suc, ◌+◌, ◌<◌, Bool, true, false, cond, ◌||◌, List, [], ◌∷◌, ◌++◌, length, map, refl, ap, sym, ◌∙◌, subst, append-nil, arith}
+use Rattle.std.specs.Prelude.{Option, Some, None, option_map, position, nat_lt, slice_get}
 use Rattle.std.specs.Option.{option_or}
 use Rattle.std.specs.List.{list_any, position_or_len}
 use Rattle.std.specs.Str.{bytes_eq}
@@ -8,7 +8,7 @@ use Rattle.std.proofs.lemmas.Bool.{or_parts, false≢true}
 use Rattle.std.proofs.lemmas.Bool.Decides.{nat_tests}
 use Rattle.std.proofs.lemmas.Slice.Eq.{bytes_eq-Decides}
 use Rattle.std.proofs.lemmas.List.Folds.{list_any-append}
-use Rattle.pg_logic.specs.Declarations.{Name, NamedFunction, NamedPredicate, Declarations, name_of}
+use Rattle.pg_logic.specs.Declarations.{Name, NamedPredicate, Declarations, name_of}
 use Rattle.pg_meaning.specs.Scope.{Scope, outermost, is_called, function_named, predicate_named, looked_up, Thing, Binder, Variable, Function, Predicate}
 use Rattle.pg_spelling.specs.Fresh.{is_taken}
 use Rattle.pg_spelling.specs.Named.{under, live, function_names, predicate_names, declared_names, taken, name_at}

@@ -74,12 +74,25 @@ pub record ReadsBack (s : Scope) (a : Fm) : Type 0 where
   pub means : formula_of s (shape_of (named_formula s a)) ≡ renamed s a
   pub same : same_formula a (renamed s a) ≡ true
 
--- The live names and the declared names all differ, and what is declared is named as it may be; the tree fits and has live variables only.
-abbrev pub TermBackLaw : Type 0
-TermBackLaw = (vars : List (Option Name)) (d : Declarations) (t : Tm) → AllDiffer (live vars ++ declared_names d) → AreNamed d →
-    fits_term (signature_of d).functions (length vars) 0 t ≡ true → is_live vars t ≡ true → TermReadsBack (outermost vars d) t
+-- What reading back asks: the live names and the declared names all differ, what is declared is named as it may be, and the
+-- tree fits and has live variables only.
+pub record CanRead (vars : List (Option Name)) (d : Declarations) : Type 0 where
+  pub differ : AllDiffer (live vars ++ declared_names d)
+  pub named : AreNamed d
 
--- the names that fresh ones are made against fit 64 bits
+pub record CanReadTerm (vars : List (Option Name)) (d : Declarations) (t : Tm) : Type 0 where
+  pub names : CanRead vars d
+  pub fitting : fits_term (signature_of d).functions (length vars) 0 t ≡ true
+  pub living : is_live vars t ≡ true
+
+pub record CanReadFormula (vars : List (Option Name)) (d : Declarations) (a : Fm) : Type 0 where
+  pub names : CanRead vars d
+  pub fitting : fits (signature_of d) (length vars) 0 a ≡ true
+  pub living : is_live_formula vars a ≡ true
+  pub room : HasRoom (outermost vars d) a
+
+abbrev pub TermBackLaw : Type 0
+TermBackLaw = (vars : List (Option Name)) (d : Declarations) (t : Tm) → CanReadTerm vars d t → TermReadsBack (outermost vars d) t
+
 abbrev pub BackLaw : Type 0
-BackLaw = (vars : List (Option Name)) (d : Declarations) (a : Fm) → AllDiffer (live vars ++ declared_names d) → AreNamed d →
-    fits (signature_of d) (length vars) 0 a ≡ true → is_live_formula vars a ≡ true → HasRoom (outermost vars d) a → ReadsBack (outermost vars d) a
+BackLaw = (vars : List (Option Name)) (d : Declarations) (a : Fm) → CanReadFormula vars d a → ReadsBack (outermost vars d) a

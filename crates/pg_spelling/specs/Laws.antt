@@ -1,5 +1,5 @@
 -- Laws of fresh names.
-use Rattle.std.specs.Prelude.{ℕ, ◌+◌, ◌<◌, ◌^◌, List, length}
+use Rattle.std.specs.Prelude.{◌+◌, ◌<◌, ◌^◌, List, length}
 use Rattle.pg_logic.specs.Declarations.{Name}
 use Rattle.pg_spelling.specs.Fresh.{fresh, IsFresh}
 

@@ -8,20 +8,20 @@ use Rattle.pg_spelling.specs.Named.{named, named_formula}
 
 -- the signs, as the bytes of their characters
 abbrev pub op_text : Op → List ℕ
-op_text Implies = 226 ∷ 134 ∷ 146 ∷ [] -- →
-op_text Or = 226 ∷ 136 ∷ 168 ∷ [] -- ∨
-op_text And = 226 ∷ 136 ∷ 167 ∷ [] -- ∧
-op_text Equal = 61 ∷ [] -- =
-op_text NotEqual = 226 ∷ 137 ∷ 160 ∷ [] -- ≠
-op_text LessEqual = 226 ∷ 137 ∷ 164 ∷ [] -- ≤
-op_text Less = 60 ∷ [] -- <
-op_text Plus = 43 ∷ [] -- +
-op_text Times = 42 ∷ [] -- *
-op_text Power = 94 ∷ [] -- ^
+op_text Implies = 226 ∷ 134 ∷ 146 ∷ []  -- →
+op_text Or = 226 ∷ 136 ∷ 168 ∷ []  -- ∨
+op_text And = 226 ∷ 136 ∷ 167 ∷ []  -- ∧
+op_text Equal = 61 ∷ []  -- =
+op_text NotEqual = 226 ∷ 137 ∷ 160 ∷ []  -- ≠
+op_text LessEqual = 226 ∷ 137 ∷ 164 ∷ []  -- ≤
+op_text Less = 60 ∷ []  -- <
+op_text Plus = 43 ∷ []  -- +
+op_text Times = 42 ∷ []  -- *
+op_text Power = 94 ∷ []  -- ^
 
 abbrev pub quantifier_text : Quantifier → List ℕ
-quantifier_text ForAll = 226 ∷ 136 ∷ 128 ∷ [] -- ∀
-quantifier_text Exists = 226 ∷ 136 ∷ 131 ∷ [] -- ∃
+quantifier_text ForAll = 226 ∷ 136 ∷ 128 ∷ []  -- ∀
+quantifier_text Exists = 226 ∷ 136 ∷ 131 ∷ []  -- ∃
 
 -- ¬
 abbrev pub not_text : List ℕ

@@ -10,13 +10,16 @@ ghost use Rattle.pg_spelling.specs.Fresh.{fresh};
 ghost use Rattle.pg_logic.specs.Tree.{imp};
 ghost use Rattle.pg_meaning.specs.Scope.{outermost};
 ghost use Rattle.pg_spelling.specs.Named.{named_formula};
+ghost use Rattle.pg_spelling.specs.Back.{CanReadFormula, CanReadTerm, ReadsBack, TermReadsBack};
 ghost use Rattle.pg_spelling.specs.Written.{quantifier_text, written, printed, printed_formula};
 ghost use Rattle.pg_syntax.specs.Places.{scope_under, weight, operand_text, is_falsum, Sides};
 ghost use Rattle.pg_syntax.specs.Texts.{bound_text};
 
 use crate::fresh::Taken;
 use crate::names::Names;
-use crate::written::{ATOM, Context, NEGATION, Place, call_weight, write_call, write_joined, write_sign, write_term};
+use crate::written::{
+    ATOM, Context, NEGATION, Place, call_weight, write_call, write_joined, write_sign, write_term,
+};
 use pg_arith::Signature;
 use pg_shape::{Op, Quantifier};
 use pg_terms::{Formula, Name, Term};
@@ -220,14 +223,16 @@ fn write_bound(
 /// The text of a formula: its one printed spelling, with the names of variables by `names`, each
 /// binder's name made fresh, and the least parentheses (docs/LOGIC.md, "Printing"). It is meant for
 /// a formula that fits and uses live names only, where no live name is a declared name or a reserved
-/// word; a number that has no name is printed as nothing. It fails only for want of memory.
+/// word; a number that has no name is printed as nothing. The shape of the text then means the same
+/// formula again. It fails only for want of memory.
 pub fn print_formula(
     alloc: Global,
     formula: &Formula,
     names: &Names,
     sig: &Signature,
 ) -> Result<String, AllocError>
-    ensures { IfOk result (λ text. string_bytes text ≡ printed_formula (outermost (names.now.vars.items) (declarations sig.now)) (view.formula formula.now)) }
+    ensures text { IfOk result (λ text. string_bytes text ≡ printed_formula (outermost names.now.vars.items (declarations sig.now)) (view.formula formula.now)) }
+    ensures reads { IfOk result (λ text. CanReadFormula names.now.vars.items (declarations sig.now) (view.formula formula.now) → ReadsBack (outermost names.now.vars.items (declarations sig.now)) (view.formula formula.now)) }
 {
     let cx = Context { names, sig };
     let p = Printer { alloc, cx: &cx };
@@ -244,7 +249,8 @@ pub fn print_term(
     names: &Names,
     sig: &Signature,
 ) -> Result<String, AllocError>
-    ensures { IfOk result (λ text. string_bytes text ≡ printed (outermost (names.now.vars.items) (declarations sig.now)) (view.term term.now)) }
+    ensures text { IfOk result (λ text. string_bytes text ≡ printed (outermost names.now.vars.items (declarations sig.now)) (view.term term.now)) }
+    ensures reads { IfOk result (λ text. CanReadTerm names.now.vars.items (declarations sig.now) (view.term term.now) → TermReadsBack (outermost names.now.vars.items (declarations sig.now)) (view.term term.now)) }
 {
     let mut out = String::new(alloc);
     let place = Place {

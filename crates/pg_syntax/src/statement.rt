@@ -40,11 +40,7 @@ fn quantified(
 }
 
 /// An implication.
-fn implication(
-    alloc: Global,
-    a: &Formula,
-    b: Boxed<Formula>,
-) -> Result<Boxed<Formula>, AllocError>
+fn implication(alloc: Global, a: &Formula, b: Boxed<Formula>) -> Result<Boxed<Formula>, AllocError>
     ensures { IfOk result (λ c. formula c ≡ tree.imp (formula a.now) (formula b)) }
 {
     let a = Boxed::new(alloc, a.copied(alloc)?)?;

@@ -4,9 +4,7 @@ ghost use Rattle.std.specs.Prelude.{◌≡◌, ◌++◌, ◌∷◌, [], ◌<◌,
 ghost use Rattle.pg_logic.specs.Tree.{eq, free};
 ghost use Rattle.pg_syntax.specs.Statements.{AreTight, total};
 
-use crate::{
-    Binder, Names, Statement, fresh_name, print_formula, print_term, statement_formula,
-};
+use crate::{Binder, Names, Statement, fresh_name, print_formula, print_term, statement_formula};
 use pg_arith::{DeclareFault, Signature};
 use pg_terms::{Formula, Name, Term};
 use sqlite_items::{Boxed, Items};
@@ -106,7 +104,16 @@ fn function(
     let own = name(alloc, names[0])?;
     let first = name(alloc, names[1])?;
     let second = name(alloc, names[2])?;
-    sig.declare_function(alloc, own, arity, params, Term::Zero, Term::Zero, first, second)
+    sig.declare_function(
+        alloc,
+        own,
+        arity,
+        params,
+        Term::Zero,
+        Term::Zero,
+        first,
+        second,
+    )
 }
 
 fn constant(sig: &mut Signature, alloc: Global) -> Result<u16, DeclareFault> {
@@ -174,7 +181,11 @@ fn to_the_left(alloc: Global) -> Result<Boxed<Term>, AllocError> {
 
 /// `^ 1`
 fn sign_before(alloc: Global) -> Result<Boxed<Term>, AllocError> {
-    call_one(alloc, 2, Boxed::new(alloc, Term::App(1, Items::new(alloc)))?)
+    call_one(
+        alloc,
+        2,
+        Boxed::new(alloc, Term::App(1, Items::new(alloc)))?,
+    )
 }
 
 /// `succ (^ (succ 0))`
@@ -302,7 +313,10 @@ fn binders(alloc: Global) -> Result<Vec<Binder>, AllocError>
         Formula::Eq(Term::Free(0), Term::Zero),
     );
     let third = Binder::Var(Name::new(alloc, "m")?);
-    with_binder(with_binder(with_binder(Vec::new(alloc), first)?, second)?, third)
+    with_binder(
+        with_binder(with_binder(Vec::new(alloc), first)?, second)?,
+        third,
+    )
 }
 
 /// The closed formula of `(n : ℕ) (h : n = 0) (m : ℕ) : m = n`.

@@ -31,7 +31,9 @@ pub struct Place<'a> {
 
 /// How strong an atom is, an application, and `¬`.
 pub const ATOM: u8 = 101;
+
 pub const APPLICATION: u8 = 100;
+
 pub const NEGATION: u8 = 40;
 
 /// The spelling of a sign.
@@ -175,12 +177,7 @@ pub fn write_term(out: &mut String, place: &Place<'_>, t: &Term) -> Result<(), A
 
 /// Writes a term as an operand, in parentheses where it is weaker than is wanted.
 #[cycle(write)]
-fn write_operand(
-    out: &mut String,
-    place: &Place<'_>,
-    least: u8,
-    t: &Term,
-) -> Result<(), AllocError>
+fn write_operand(out: &mut String, place: &Place<'_>, least: u8, t: &Term) -> Result<(), AllocError>
     requires { 0 < least }
     ensures { OnOk result (string_bytes out.new ≡ string_bytes out.old ++ operand_text least (shape_of (named (scope place.now) (term t.now)))) }
 {
