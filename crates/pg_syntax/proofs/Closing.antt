@@ -1,9 +1,9 @@
 -- A formula closed over a variable: as many nodes, and nothing loose under its binder.
-use Rattle.std.proofs.Common.{◌≡◌, ℕ, ◌+◌, ◌^◌, ◌<◌, ◌≤◌, ◌-◌, ◌==◌, nat_lt, length, take, drop, Bool, true, false, cond, ◌&&◌, List, [], ◌∷◌, refl, ap, ap₂, sym, ◌∙◌, arith}
+use Rattle.std.proofs.Common.{◌≡◌, ℕ, ◌+◌, ◌^◌, ◌<◌, ◌≤◌, ◌-◌, ◌==◌, nat_lt, length, take, drop, Bool, true, false, cond, List, [], ◌∷◌, refl, ap, ap₂, ◌∙◌, arith}
 use Rattle.std.proofs.lemmas.List.{take_all}
 use Rattle.std.proofs.lemmas.Bool.{and_parts, and_from}
 use Rattle.std.proofs.lemmas.Bool.Decides.{nat_tests}
-use Rattle.pg_logic.specs.Tree.{Tm, free, bound, nought, succ, app, Tms, none, arg, Fm, falsum, eq, pred, and, or, imp, all, ex, nodes, nodes_all, nodes_of, mapped, mapped_all, mapped_formula, closed_free, kept_bound, closed_over_formula, is_tight, are_tight, is_tight_formula}
+use Rattle.pg_logic.specs.Tree.{Tm, free, bound, nought, succ, app, Tms, none, arg, Fm, falsum, eq, pred, and, or, imp, all, ex, nodes, nodes_all, nodes_of, mapped, mapped_all, mapped_formula, closed_free, kept_bound, is_tight, are_tight, is_tight_formula}
 use Rattle.pg_terms.specs.View.{formula}
 use Rattle.pg_syntax.specs.declared.statement.Binder.{Binder}
 use Rattle.pg_syntax.specs.declared.statement.Binder.TheVariants.{Var, Hyp}

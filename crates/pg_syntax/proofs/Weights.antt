@@ -1,12 +1,12 @@
 -- How strong printed trees are, and what their parts are.
-use Rattle.std.proofs.Common.{◌≡◌, ℕ, zero, suc, ◌+◌, ◌<◌, ◌≤◌, Bool, true, false, cond, ◌||◌, List, [], ◌∷◌, ◌++◌, length, codes, refl, ap, sym, ◌∙◌, arith, append_assoc, append-nil}
+use Rattle.std.proofs.Common.{◌≡◌, ℕ, ◌<◌, ◌≤◌, Bool, true, false, cond, List, [], ◌∷◌, ◌++◌, length, codes, refl, ap, sym, ◌∙◌, arith, append_assoc, append-nil}
 use Rattle.std.specs.Prelude.{Option, Some, None, option_map, nat_lt, ◌==◌, Result, Ok, Err, OnOk, IfOk}
 use Rattle.std.proofs.lemmas.Bool.{false≢true}
 use Rattle.std.proofs.lemmas.Bool.Decides.{nat_tests}
-use Rattle.pg_logic.specs.Tree.{Tm, Tms, none, arg, Fm, falsum, eq, pred, and, or, imp, all, ex, list_of}
+use Rattle.pg_logic.specs.Tree.{Tm, Tms, none, arg, Fm, falsum, eq, pred, and, or, imp, all, ex}
 use Rattle.pg_logic.specs.Declarations.{Name}
 use Rattle.pg_grammar.specs.Shapes.{Op, Implies, Or, And, Equal, NotEqual, LessEqual, Less, Plus, Times, Power, Shape, Named, Numeral, Falsum, Paren, Next, App, Neg, Quant, Binary, level, left_min, right_min, strength}
-use Rattle.pg_grammar.specs.Printing.{Join, Arrow, Either, Both, Equals, AtMost, Below, Sum, Product, Raised, sign_of, Tree, Trees, Ended, Also, Call, Number, Never, Node, is_quant, operand, joined, negated, node_shape, applied, unplaced, shape_of, shapes_of}
+use Rattle.pg_grammar.specs.Printing.{Join, Arrow, Either, Both, Equals, AtMost, Below, Sum, Product, Raised, sign_of, Tree, Ended, Call, Number, is_quant, operand, joined, negated, node_shape, applied, unplaced, shape_of, shapes_of}
 use Rattle.std.specs.Str.{bytes_eq}
 use Rattle.pg_terms.specs.declared.term.Term.{Term}
 use Rattle.pg_terms.specs.View.{term, args}

@@ -6,9 +6,9 @@ use Rattle.pg_logic.specs.Tree.{Fm, falsum, eq}
 use Rattle.pg_terms.specs.declared.term.Term.{Term}
 use Rattle.pg_terms.specs.View.{term}
 use Rattle.pg_grammar.specs.Shapes.{Shape, strength}
-use Rattle.pg_grammar.specs.Printing.{is_quant, operand, shape_of}
+use Rattle.pg_grammar.specs.Printing.{is_quant, operand}
 use Rattle.pg_meaning.specs.Scope.{Scope}
-use Rattle.pg_spelling.specs.Named.{live, declared_names, named}
+use Rattle.pg_spelling.specs.Named.{live, declared_names}
 use Rattle.pg_spelling.specs.Written.{written}
 use Rattle.pg_arith.specs.View.{declarations}
 use Rattle.pg_syntax.specs.declared.fresh.Taken.{Taken}

@@ -1,7 +1,6 @@
 -- The closed formula of a statement.
-use Rattle.std.specs.Prelude.{ℕ, ◌+◌, ◌<◌, ◌^◌, ◌≡◌, true, List, [], ◌∷◌}
+use Rattle.std.specs.Prelude.{ℕ, ◌+◌, ◌≡◌, true, List, [], ◌∷◌}
 use Rattle.pg_logic.specs.Tree.{Fm, all, imp, closed_over_formula, is_tight_formula, nodes_of}
-use Rattle.pg_logic.specs.Declarations.{Name}
 use Rattle.pg_terms.specs.View.{formula}
 use Rattle.pg_syntax.specs.declared.statement.Binder.{Binder}
 use Rattle.pg_syntax.specs.declared.statement.Binder.TheVariants.{Var, Hyp}

@@ -1,5 +1,5 @@
 -- The text of arguments.
-use Rattle.std.specs.Prelude.{ℕ, List, [], ◌∷◌, ◌++◌, codes}
+use Rattle.std.specs.Prelude.{ℕ, List, [], ◌++◌, codes}
 use Rattle.pg_logic.specs.Tree.{Tms, none, arg, Fm}
 use Rattle.pg_logic.specs.Declarations.{Name}
 use Rattle.pg_grammar.specs.Shapes.{Quantifier}

@@ -1,4 +1,4 @@
-use Rattle.std.proofs.Common.{◌≡◌, ◌≢◌, ◌∙◌, sym, List, [], arith, string_bytes, String, Global, ℕ}
+use Rattle.std.proofs.Common.{◌≡◌, ◌≢◌, ◌∙◌, sym, [], arith, string_bytes, String, Global}
 use Rattle.pg_spelling.specs.Fresh.{numbered}
 use Rattle.pg_syntax.proofs.Lists.{decimal-some}
 use Rattle.pg_syntax.proofs.Weights.{if_ok}

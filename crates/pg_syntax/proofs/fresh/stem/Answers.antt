@@ -1,4 +1,4 @@
-use Rattle.std.proofs.Common.{◌≡◌, ◌∙◌, ◌-◌, ◌<◌, ◌≤◌, length, take, sym, ap, arith, false, true, get_or}
+use Rattle.std.proofs.Common.{◌≡◌, ◌∙◌, ◌-◌, take, sym, ap, arith, false, true, get_or}
 use Rattle.std.specs.Char.{is_ascii_digit}
 use Rattle.pg_spelling.specs.Fresh.{stem}
 use Rattle.pg_syntax.proofs.Lists.{stem-shorter, stem-whole}
