@@ -1,11 +1,11 @@
 -- What is printed means the same again.
-use Rattle.std.proofs.Common.{◌≡◌, ℕ, zero, suc, ◌+◌, ◌<◌, Bool, true, false, cond, ◌||◌, List, [], ◌∷◌, ◌++◌, length, codes, refl, ap, ap₂, sym, ◌∙◌, subst, append-nil, arith}
+use Rattle.std.proofs.Common.{◌≡◌, ℕ, zero, suc, ◌+◌, ◌^◌, ◌<◌, Bool, true, false, cond, ◌||◌, List, [], ◌∷◌, ◌++◌, length, codes, refl, ap, ap₂, sym, ◌∙◌, subst, append-nil, arith}
 use Rattle.std.specs.Prelude.{Option, Some, None, option_map, unwrap_or, nat_lt, slice_get, ◌==◌}
 use Rattle.std.specs.Option.{option_or}
 use Rattle.std.specs.Str.{bytes_eq}
 use Rattle.std.proofs.lemmas.Bool.{and_parts, and_from, false≢true, ltb-true, eqb-true, eq-eqb}
 use Rattle.std.proofs.lemmas.Option.{slice_get-map}
-use Rattle.pg_logic.specs.Tree.{Tm, free, bound, nought, succ, app, Tms, none, arg, Fm, falsum, eq, pred, and, or, imp, all, ex, same, same_all, same_formula}
+use Rattle.pg_logic.specs.Tree.{Tm, free, bound, nought, succ, app, Tms, none, arg, Fm, falsum, eq, pred, and, or, imp, all, ex, same, same_all, same_formula, nodes_of}
 use Rattle.pg_logic.specs.Declarations.{Name, NamedFunction, by_recursion, by_term, NamedPredicate, Declarations, name_of, arity_of, function_of, predicate_of, signature_of}
 use Rattle.pg_logic.specs.Signature as logic
 use Rattle.pg_logic.specs.Signature.{fits, fits_term, fits_terms, count, takes, holds_of}
@@ -18,7 +18,7 @@ use Rattle.pg_meaning.specs.Meaning as meaning
 use Rattle.pg_meaning.specs.Live.{is_named, is_live, are_live, is_live_formula}
 use Rattle.pg_spelling.specs.Fresh.{fresh, is_taken}
 use Rattle.pg_spelling.specs.Named.{under, live, function_names, predicate_names, declared_names, taken, name_at, live_name, sign_in, sign_named, begins_with_digit, alone, between, at_arguments, named, named_all, named_formula}
-use Rattle.pg_spelling.specs.Back.{AllDiffer, CanName, CanTell, AreNamed, renamed, HasRoom, BackLaw, TermBackLaw}
+use Rattle.pg_spelling.specs.Back.{AllDiffer, CanName, CanTell, AreNamed, renamed, BackLaw, TermBackLaw}
 use Rattle.pg_grammar.proofs.Printing.{printing-law}
 use Rattle.pg_spelling.proofs.Fresh.{by_bool, fresh-law}
 use Rattle.pg_spelling.proofs.Places.{IsApart, apart-under, apart-outermost, place-named, equal}
@@ -444,6 +444,37 @@ mutual
       let q = and_parts _ _ l in
       (term-back s r n t p.0 q.0, terms-back s r n ts p.1 q.1)
 
+-- ---- room for fresh names
+
+-- at each binder the names that are taken are so few that a number of 64 bits makes one free
+abbrev HasRoom : Scope → Fm → Type 0
+HasRoom s (and a b) = HasRoom s a × HasRoom s b
+HasRoom s (or a b) = HasRoom s a × HasRoom s b
+HasRoom s (imp a b) = HasRoom s a × HasRoom s b
+HasRoom s (all x a) = (length (taken s) + 1 < 2 ^ 64) × HasRoom (under (fresh (taken s) x) s) a
+HasRoom s (ex x a) = (length (taken s) + 1 < 2 ^ 64) × HasRoom (under (fresh (taken s) x) s) a
+HasRoom s a = Unit {0}
+
+some-node : (a : Fm) → 0 < nodes_of a
+some-node falsum = omega arith
+some-node (eq a b) = omega arith
+some-node (pred p ts) = omega arith
+some-node (and a b) = omega arith
+some-node (or a b) = omega arith
+some-node (imp a b) = omega arith
+some-node (all x a) = omega arith
+some-node (ex x a) = omega arith
+
+has-room : (s : Scope) (a : Fm) → length (taken s) + nodes_of a < 2 ^ 64 → HasRoom s a
+has-room s falsum h = tt
+has-room s (eq a b) h = tt
+has-room s (pred p ts) h = tt
+has-room s (and a b) h = (has-room s a (omega (arith, h)), has-room s b (omega (arith, h)))
+has-room s (or a b) h = (has-room s a (omega (arith, h)), has-room s b (omega (arith, h)))
+has-room s (imp a b) h = (has-room s a (omega (arith, h)), has-room s b (omega (arith, h)))
+has-room s (all x a) h = (omega (arith, h, some-node a), has-room (under (fresh (taken s) x) s) a (omega (arith, h)))
+has-room s (ex x a) h = (omega (arith, h, some-node a), has-room (under (fresh (taken s) x) s) a (omega (arith, h)))
+
 -- ---- formulas
 
 below-binder : (s : Scope) (y : Name) → Ready s → is_taken (taken s) y ≡ false → Ready (under y s)
@@ -600,7 +631,7 @@ term-back-law vars d t c =
 pub back-law : BackLaw
 back-law vars d a c =
     let s : Scope = outermost vars d in
-    let m : IsFormula s (shape_of (named_formula s a)) (renamed s a) = formula-back s (ready vars d c.names.differ c.names.named) (length vars) a c.fitting c.living c.room in
+    let m : IsFormula s (shape_of (named_formula s a)) (renamed s a) = formula-back s (ready vars d c.names.differ c.names.named) (length vars) a c.fitting c.living (has-room s a c.small) in
     record {
       shape = (printing-law (named_formula s a)).shape;
       faultless = formula-faultless s (shape_of (named_formula s a)) (renamed s a) m;

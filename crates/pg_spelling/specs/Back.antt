@@ -2,7 +2,7 @@
 use Rattle.std.specs.Prelude.{ℕ, ◌≡◌, ◌+◌, ◌<◌, ◌^◌, Bool, true, false, List, [], ◌∷◌, ◌++◌, length, Option, Some, None, slice_get}
 use Rattle.std.specs.List.{list_any}
 use Rattle.std.specs.Str.{bytes_eq}
-use Rattle.pg_logic.specs.Tree.{Tm, Fm, falsum, eq, pred, and, or, imp, all, ex, same_formula}
+use Rattle.pg_logic.specs.Tree.{Tm, Fm, falsum, eq, pred, and, or, imp, all, ex, same_formula, nodes_of}
 use Rattle.pg_logic.specs.Declarations.{Name, NamedFunction, NamedPredicate, Declarations, name_of, arity_of, signature_of}
 use Rattle.pg_logic.specs.Signature.{fits, fits_term}
 use Rattle.pg_grammar.specs.Shapes.{IsShape}
@@ -52,15 +52,6 @@ renamed s (imp a b) = imp (renamed s a) (renamed s b)
 renamed s (all x a) = all (fresh (taken s) x) (renamed (under (fresh (taken s) x) s) a)
 renamed s (ex x a) = ex (fresh (taken s) x) (renamed (under (fresh (taken s) x) s) a)
 
--- the names that are taken at a binder are so few that a number of 64 bits makes one free
-abbrev pub HasRoom : Scope → Fm → Type 0
-HasRoom s (and a b) = HasRoom s a × HasRoom s b
-HasRoom s (or a b) = HasRoom s a × HasRoom s b
-HasRoom s (imp a b) = HasRoom s a × HasRoom s b
-HasRoom s (all x a) = (length (taken s) + 1 < 2 ^ 64) × HasRoom (under (fresh (taken s) x) s) a
-HasRoom s (ex x a) = (length (taken s) + 1 < 2 ^ 64) × HasRoom (under (fresh (taken s) x) s) a
-HasRoom s a = Unit {0}
-
 -- the printed shape is one, has no fault, and means the same term
 pub record TermReadsBack (s : Scope) (t : Tm) : Type 0 where
   pub shape : IsShape (shape_of (named s t))
@@ -75,7 +66,7 @@ pub record ReadsBack (s : Scope) (a : Fm) : Type 0 where
   pub same : same_formula a (renamed s a) ≡ true
 
 -- What reading back asks: the live names and the declared names all differ, what is declared is named as it may be, and the
--- tree fits and has live variables only.
+-- tree fits and has live variables only; for a formula besides that the names and its nodes are fewer than 2^64.
 pub record CanRead (vars : List (Option Name)) (d : Declarations) : Type 0 where
   pub differ : AllDiffer (live vars ++ declared_names d)
   pub named : AreNamed d
@@ -89,7 +80,7 @@ pub record CanReadFormula (vars : List (Option Name)) (d : Declarations) (a : Fm
   pub names : CanRead vars d
   pub fitting : fits (signature_of d) (length vars) 0 a ≡ true
   pub living : is_live_formula vars a ≡ true
-  pub room : HasRoom (outermost vars d) a
+  pub small : length (taken (outermost vars d)) + nodes_of a < 2 ^ 64
 
 abbrev pub TermBackLaw : Type 0
 TermBackLaw = (vars : List (Option Name)) (d : Declarations) (t : Tm) → CanReadTerm vars d t → TermReadsBack (outermost vars d) t
