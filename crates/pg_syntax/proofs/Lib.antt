@@ -1,8 +1,11 @@
 pub mod Answering
 pub mod Calls
+pub mod Closing
 pub mod Joins
+pub mod Lists
 pub mod Places
 pub mod Readable
 pub mod Texts
 pub mod Views
+pub mod Weights
 pub mod Wholes

@@ -137,3 +137,6 @@ pub fn read_formula(
 {
     formula_in_tokens(alloc, tokens, end, names, sig)
 }
+
+#[cfg(test)]
+mod tests;

@@ -1,0 +1,168 @@
+// Names made fresh by a number.
+ghost use Rattle.std.specs.Prelude.{◌≡◌, ◌≢◌, ◌++◌, [], ◌+◌, ◌<◌, ◌≤◌, ◌^◌, length, IfOk, string_bytes};
+ghost use Rattle.std.specs.List.{list_any};
+ghost use Rattle.std.specs.Str.{bytes_eq};
+ghost use Rattle.pg_arith.specs.View.{declarations};
+ghost use Rattle.pg_spelling.specs.Fresh.{is_taken, stem, numbered, free_number, fresh};
+ghost use Rattle.pg_spelling.specs.Named.{live, declared_names};
+ghost use Rattle.pg_syntax.specs.Places.{taken_names};
+
+use pg_arith::Signature;
+use pg_base::is_reserved;
+use pg_terms::Name;
+use std::alloc::{AllocError, Global};
+
+/// The names that a new one may not be, besides the reserved words.
+#[derive(Clone, Copy)]
+pub struct Taken<'a> {
+    /// Names of binders, or any others.
+    pub binders: &'a [Name],
+    /// Names of variables, where they live.
+    pub vars: &'a [Option<Name>],
+    /// What is declared: the names of its functions, constants and predicates.
+    pub sig: &'a Signature,
+}
+
+/// Whether a text is one of these names.
+fn is_among(names: &[Name], text: &str) -> bool
+    ensures { result ≡ list_any (bytes_eq text.now) names.now }
+{
+    for name in names {
+        if text == name.as_str() {
+            return true;
+        }
+    }
+    false
+}
+
+/// Whether a text is the name of a variable that lives.
+fn is_live(vars: &[Option<Name>], text: &str) -> bool
+    ensures { result ≡ list_any (bytes_eq text.now) (live vars.now) }
+{
+    for var in vars {
+        if let Some(name) = var {
+            if text == name.as_str() {
+                return true;
+            }
+        }
+    }
+    false
+}
+
+/// Whether a text is the name of a function, a constant or a predicate.
+fn is_declared(sig: &Signature, text: &str) -> bool
+    ensures { result ≡ list_any (bytes_eq text.now) (declared_names (declarations sig.now)) }
+{
+    if sig.function_named(text).is_some() {
+        return true;
+    }
+    sig.predicate_named(text).is_some()
+}
+
+/// How many variables live.
+fn live_count(vars: &[Option<Name>]) -> usize
+    ensures count { result ≡ length (live vars.now) }
+    ensures bound { result ≤ length vars.now }
+{
+    let mut count = 0;
+    for var in vars {
+        if let Some(_) = var {
+            count += 1;
+        }
+    }
+    count
+}
+
+/// A name without the ASCII digits at its end.
+fn stem(name: &str) -> &str
+    ensures { result.now ≡ stem name.now }
+{
+    let bytes = name.as_bytes();
+    let mut end = bytes.len();
+    while end > 0 && bytes[end - 1].is_ascii_digit() {
+        end -= 1;
+    }
+    name.split_at(end).0
+}
+
+/// A stem with a number behind it.
+fn numbered(alloc: Global, stem: &str, number: usize) -> Result<String, AllocError>
+    ensures made { IfOk result (λ made. string_bytes made ≡ numbered stem.now number) }
+    ensures some { IfOk result (λ made. string_bytes made ≢ []) }
+{
+    format!(in alloc; "{stem}{number}")
+}
+
+impl Taken<'_> {
+    /// Whether a text is one of the names, or a reserved word.
+    fn has(&self, text: &str) -> bool
+        ensures { result ≡ is_taken (taken_names self.now) text.now }
+    {
+        if is_among(self.binders, text) {
+            return true;
+        }
+        if is_live(self.vars, text) {
+            return true;
+        }
+        if is_declared(self.sig, text) {
+            return true;
+        }
+        is_reserved(text)
+    }
+
+    /// How many names there are.
+    fn count(&self) -> usize
+        ensures count { result ≡ length (taken_names self.now) }
+        ensures bound { result + 1 < 2 ^ 64 }
+    {
+        self.binders.len()
+            + live_count(self.vars)
+            + self.sig.function_count() as usize
+            + self.sig.predicate_count() as usize
+    }
+
+    /// A stem with the least number from 1 on that makes it free.
+    fn first_free(&self, alloc: Global, stem: &str) -> Result<String, AllocError>
+        ensures some { IfOk result (λ made. string_bytes made ≢ []) }
+        ensures made { IfOk result (λ made. string_bytes made ≡ numbered stem.now (free_number (taken_names self.now) stem.now (length (taken_names self.now)) 1)) }
+    {
+        let room = self.count();
+        for before in 0..room {
+            let made = numbered(alloc, stem, before + 1)?;
+            if !self.has(made.as_str()) {
+                return Ok(made);
+            }
+        }
+        numbered(alloc, stem, room + 1)
+    }
+
+    /// A name made fresh: it stays where it isn't taken.
+    pub fn fresh(&self, alloc: Global, name: &Name) -> Result<Name, AllocError>
+        ensures { IfOk result (λ made. made ≡ fresh (taken_names self.now) name.now) }
+    {
+        if !self.has(name.as_str()) {
+            return name.copied(alloc);
+        }
+        let made = self.first_free(alloc, stem(name.as_str()))?;
+        Name::new(alloc, made.as_str())
+    }
+}
+
+/// A name made fresh against these names, the names of functions, constants and predicates, and the
+/// reserved words: itself where it isn't taken, else without its trailing digits and with the least
+/// number from 1 on that makes it free (docs/LOGIC.md, "Printing"). It fails only for want of memory.
+pub fn fresh_name(
+    alloc: Global,
+    name: &Name,
+    taken: &[Name],
+    sig: &Signature,
+) -> Result<Name, AllocError>
+    ensures { IfOk result (λ made. made ≡ fresh (taken.now ++ declared_names (declarations sig.now)) name.now) }
+{
+    let taken = Taken {
+        binders: taken,
+        vars: &[],
+        sig,
+    };
+    taken.fresh(alloc, name)
+}
