@@ -7,7 +7,7 @@ use thiserror::Error;
 #[derive(Clone, Copy, Debug, PartialEq, Eq, Error)]
 pub enum ShapeFault {
     /// Nothing begins so; `what` is a kind of thing that could stand at this place.
-    #[error("another token at byte {at} is wanted")]
+    #[error("expected {what} at byte {at}")]
     Expected { at: u32, what: Wanted },
     /// The token at this place is nested over 100.
     #[error("the token at byte {at} is nested over 100")]

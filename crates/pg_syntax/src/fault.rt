@@ -11,7 +11,7 @@ use thiserror::Error;
 pub enum SyntaxFault {
     /// Nothing begins so, or a term stands where a formula is wanted or the reverse; `what` is a kind
     /// of thing that could stand at this place.
-    #[error("another token at byte {at} is wanted")]
+    #[error("expected {what} at byte {at}")]
     Expected { at: u32, what: Wanted },
     /// The name, number or sign at this place stands for nothing.
     #[error("what stands at byte {at} is not known")]

@@ -1,5 +1,5 @@
 // Terms and formulas that are read, and their faults.
-use crate::{Names, SyntaxFault, print_formula, read_formula};
+use crate::{Names, SyntaxFault, print_formula, print_term, read_formula, read_term};
 use pg_arith::{DeclareFault, Signature};
 use pg_base::tokens_of;
 use pg_terms::{Formula, Name, Term};
@@ -229,6 +229,186 @@ fn parentheses_and_names_stay_where_they_are_needed(rt: HostRuntime) -> Result<(
         ),
     ] {
         assert!(rt; is_printed(rt.alloc(), source, want)?, "{source}");
+    }
+    Ok(())
+}
+
+// ---- what is declared by name
+
+fn one_parameter(alloc: Global) -> Result<Vec<Name>, AllocError> {
+    let mut params = Vec::new(alloc);
+    if params.push(name(alloc, "d")?).is_err() {
+        return Err(AllocError);
+    }
+    Ok(params)
+}
+
+// The function `f` of one argument.
+fn named_function(sig: &mut Signature, alloc: Global) -> Result<u16, DeclareFault> {
+    let params = one_parameter(alloc)?;
+    if params.len() != 1 || sig.function_count() > 64 {
+        return Err(DeclareFault::OutOfMemory);
+    }
+    let own = name(alloc, "f")?;
+    let first = name(alloc, "f_zero")?;
+    let second = name(alloc, "f_succ")?;
+    sig.declare_function(alloc, own, 1, params, Term::Zero, Term::Zero, first, second)
+}
+
+fn constant(sig: &mut Signature, alloc: Global, names: [&str; 2]) -> Result<u16, DeclareFault> {
+    if sig.function_count() > 64 {
+        return Err(DeclareFault::OutOfMemory);
+    }
+    let own = name(alloc, names[0])?;
+    sig.declare_constant(alloc, own, Term::Zero, name(alloc, names[1])?)
+}
+
+fn predicate(
+    sig: &mut Signature,
+    alloc: Global,
+    own: &str,
+    arity: u16,
+) -> Result<u16, DeclareFault> {
+    if sig.predicate_count() > 64 {
+        return Err(DeclareFault::OutOfMemory);
+    }
+    sig.declare_predicate(alloc, name(alloc, own)?, arity, Formula::Falsum)
+}
+
+// The function `f`, the constants `1` and `k`, and the predicates `p` of no argument and `q` of one.
+fn words(alloc: Global) -> Result<Signature, DeclareFault> {
+    let mut sig = Signature::new(alloc)?;
+    named_function(&mut sig, alloc)?;
+    for names in [["1", "one_eq"], ["k", "k_eq"]] {
+        constant(&mut sig, alloc, names)?;
+    }
+    predicate(&mut sig, alloc, "p", 0)?;
+    predicate(&mut sig, alloc, "q", 1)?;
+    Ok(sig)
+}
+
+// Whether a formula over these names is printed as it is read.
+fn comes_back(alloc: Global, source: &str, names: &Names) -> Result<bool, AllocError> {
+    let Ok(sig) = words(alloc) else {
+        return Err(AllocError);
+    };
+    if source.len() > 1_000 || names.vars.len() > 4 {
+        return Err(AllocError);
+    }
+    let Ok(tokens) = tokens_of(alloc, source) else {
+        return Err(AllocError);
+    };
+    match read_formula(alloc, tokens.as_slice(), source.len() as u32, names, &sig) {
+        Ok(a) => {
+            let text = print_formula(alloc, &a, names, &sig)?;
+            Ok(text.as_str() == source)
+        }
+        Err(_) => Ok(false),
+    }
+}
+
+#[test]
+fn names_stand_for_what_is_declared(rt: HostRuntime) -> Result<(), Fail> {
+    let alloc = rt.alloc();
+    let names = names(alloc)?;
+    for source in [
+        "q (f a) ∧ p → f k = 1",
+        "f (succ 0) = succ (f 1)",
+        "(p ∧ p) ∧ p ∨ p ∨ p",
+        "¬ a ≠ b",
+        "p → False → p",
+        "False",
+        "∀ f1, f f1 = k",
+    ] {
+        assert!(rt; comes_back(alloc, source, &names)?, "{source}");
+    }
+    Ok(())
+}
+
+fn fault_of_words(alloc: Global, source: &str) -> Option<(char, u32, u16, u16)> {
+    let Ok(sig) = words(alloc) else {
+        return Some(('m', 0, 0, 0));
+    };
+    match formula(alloc, source, &sig) {
+        Err(fault) => Some(told(fault)),
+        Ok(_) => None,
+    }
+}
+
+#[test]
+fn names_have_faults_of_their_own(rt: HostRuntime) -> Result<(), Fail> {
+    for (source, want) in [
+        ("a = f a b", ('a', 4, 2, 1)),
+        ("q", ('a', 0, 0, 1)),
+        ("q p", ('e', 2, 0, 0)),
+        ("q ((a = b))", ('e', 2, 0, 0)),
+        ("a = 1 1", ('e', 6, 0, 0)),
+        ("a = 00", ('u', 4, 0, 0)),
+        ("∀ f, f a = a", ('a', 7, 1, 0)),
+        ("∀ World, a = a", ('e', 4, 0, 0)),
+        ("succ", ('e', 4, 0, 0)),
+    ] {
+        assert!(rt; fault_of_words(rt.alloc(), source) == Some(want), "{source}");
+    }
+    Ok(())
+}
+
+// The one variable `b`.
+fn only_b(alloc: Global) -> Result<Names, AllocError> {
+    let mut vars = Vec::new(alloc);
+    if vars.push(Some(name(alloc, "b")?)).is_err() {
+        return Err(AllocError);
+    }
+    Ok(Names { vars })
+}
+
+#[test]
+fn a_binder_keeps_a_name_that_is_free(rt: HostRuntime) -> Result<(), Fail> {
+    let alloc = rt.alloc();
+    let names = only_b(alloc)?;
+    for source in ["∀ a, ∃ b1, b1 = succ a", "∃ b1, b1 = succ b", "0 = 0"] {
+        assert!(rt; comes_back(alloc, source, &names)?, "{source}");
+    }
+    assert!(rt; !comes_back(alloc, "∀ a, ∃ b, b = succ a", &names)?);
+    Ok(())
+}
+
+// ---- terms
+
+// A term, printed again, or the letter of its fault.
+fn term_printed(alloc: Global, source: &str) -> Result<Boxed<String>, AllocError> {
+    let Ok(sig) = words(alloc) else {
+        return Err(AllocError);
+    };
+    let names = names(alloc)?;
+    if source.len() > 1_000 || names.vars.len() > 4 {
+        return Err(AllocError);
+    }
+    let Ok(tokens) = tokens_of(alloc, source) else {
+        return Err(AllocError);
+    };
+    match read_term(alloc, tokens.as_slice(), source.len() as u32, &names, &sig) {
+        Ok(t) => Boxed::new(alloc, print_term(alloc, &t, &names, &sig)?),
+        Err(fault) => {
+            let (letter, at, _, _) = told(fault);
+            Boxed::new(alloc, format!(in alloc; "{letter} {at}")?)
+        }
+    }
+}
+
+#[test]
+fn terms_are_read_as_formulas_are(rt: HostRuntime) -> Result<(), Fail> {
+    for (source, want) in [
+        ("a", "a"),
+        ("f (succ (f k))", "f (succ (f k))"),
+        ("(succ (1))", "succ 1"),
+        ("a = b", "e 0"),
+        ("p", "e 0"),
+        ("f z", "u 2"),
+        ("f (a", "e 4"),
+    ] {
+        let text = term_printed(rt.alloc(), source)?;
+        assert!(rt; text.get().as_str() == want, "{source}");
     }
     Ok(())
 }
