@@ -1,9 +1,9 @@
 -- Which worlds wait, found by one pass over an order, and which levels are open.
-use Rattle.std.proofs.Common.{◌≡◌, ℕ, ◌+◌, ◌<◌, Bool, true, false, not, ◌||◌, eqb, cond, List, [], ◌∷◌, length, set, refl, sym, ap, ◌∙◌, subst, inl, inr, arith}
+use Rattle.std.proofs.Common.{◌≡◌, ℕ, ◌+◌, ◌<◌, Bool, true, false, not, ◌||◌, eqb, cond, List, [], ◌∷◌, ◌++◌, length, set, refl, sym, ap, ◌∙◌, subst, inl, inr, arith}
 use Rattle.std.specs.Prelude.{◌↔◌, ◌⊎◌, slice_index, IsTrue}
 use Rattle.std.specs.List.{list_any}
 use Rattle.std.proofs.lemmas.Bool.{cases_Bool, cases_eq, cases_lt, eq-eqb, ne_eqb, eqb-true, false≢true, or_cases, or_left, or_right}
-use Rattle.std.proofs.lemmas.List.{get_or_past}
+use Rattle.std.proofs.lemmas.List.{get_or_past, get_or_append_left, get_or_push}
 use Rattle.std.proofs.lemmas.List.Folds.{list_any_at}
 use Rattle.pg_worlds.specs.Flags.{has, flag}
 use Rattle.pg_worlds.specs.Worlds.{Worlds, needs_of, world_count, IsGraph, IsWorldOrder}
@@ -160,6 +160,17 @@ unwon_more p won at w = (
     | inr here ↦ (at, omega arith, here.0, here.1)
   ]),
 )
+
+-- one more flag, which tells what it should
+pub flags_and_one : (P : ℕ → Type 0) (flags : List Bool) (b : Bool) (at : ℕ) → length flags ≡ at → ((k : ℕ) → k < at → IsTrue (flag flags k) ↔ P k) → (IsTrue b ↔ P at)
+    → (k : ℕ) → k < at + 1 → IsTrue (flag (flags ++ b ∷ []) k) ↔ P k
+flags_and_one P flags b at long so_far here k h =
+    elim (cases_lt k at) [
+      | inl l ↦ subst (λ c. IsTrue c ↔ P k) (sym (get_or_append_left flags (b ∷ []) false k (omega arith))) (so_far k l)
+      | inr l ↦
+          let same : at ≡ k = omega arith in
+          subst (λ c. IsTrue c ↔ P k) (sym (get_or_push flags b false k (long ∙ same))) (subst (λ n. IsTrue b ↔ P n) same here)
+    ]
 
 -- the flag of its world tells whether a level is open, where it stands for a world that waits or has a level before this one that isn't won
 pub open_at : (p : Plan) (won : List Bool) (level : ℕ) (closed : Bool) → level < length p.levels
