@@ -108,6 +108,7 @@ seen_all g order unwon waiting graph ordered seen w = (seen.sound w, λ r. marke
     at_world a b h e one =
         let r = has_place order a (ordered.every_world a h) in
         ap waiting (sym r.2) ∙ seen.closed r.0 r.1 b (ap (λ v. has (needs_of g v) b) r.2 ∙ e) one
+
     marked : (b : ℕ) → (unwon b || waiting b) ≡ true → Needs g w b → waiting w ≡ true
     marked b one (Needs.directly _ e) = at_world w b (needs_below g w b (Needs.directly b e)) e one
     marked b one (Needs.through c _ n e) = marked c (or_right (unwon c) (waiting c) (at_world c b (in_range g graph w c n) e one)) n
@@ -183,9 +184,11 @@ open_at p won level closed h means = (to closed means.1, from closed means.0)
           | inl needed ↦ inl (world_of p k, needed, (k, before.0, refl, down))
           | inr same ↦ inr (k, same.1, same.0, down)
         ]
+
     to : (c : Bool) → (IsWaiting p won (world_of p level) ⊎ HasUnwon p won level (world_of p level) → c ≡ true) → not c ≡ true → IsOpen p won level
     to true set e k before = absurd (false≢true e)
     to false set e k before = elim (cases_Bool (flag won k)) [ inl up ↦ up | inr down ↦ absurd (false≢true (set (none k before down))) ]
+
     from : (c : Bool) → (c ≡ true → IsWaiting p won (world_of p level) ⊎ HasUnwon p won level (world_of p level)) → IsOpen p won level → not c ≡ true
     from false set is_open = refl
     from true set is_open =

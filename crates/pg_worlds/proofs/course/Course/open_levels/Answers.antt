@@ -26,7 +26,7 @@ loop-at-preserved c =
     let here = subst (λ (w : ℕ). IsTrue (not (flag closed w)) ↔ IsOpen p won at) (sym c.world.ensures.world) (open_at p won at (flag closed (world_of p at)) l (c.loop-at.invariant.2 (world_of p at))) in (
       omega (arith, c.in_ok-push.ensures.len, c.loop-at.invariant.0),
       subst (λ (xs : List Bool). (k : ℕ) → k < at + 1 → IsTrue (flag xs k) ↔ IsOpen p won k) (sym c.in_ok-push.ensures.items)
-      (flags_and_one (IsOpen p won) c.loop-at.flags.items (not (flag closed c.world.result)) at (omega (arith, c.loop-at.invariant.0)) c.loop-at.invariant.1 here),
+          (flags_and_one (IsOpen p won) c.loop-at.flags.items (not (flag closed c.world.result)) at (omega (arith, c.loop-at.invariant.0)) c.loop-at.invariant.1 here),
       (λ w. grow _ _ _ _ _ (c.mark_unwon.ensures w) (c.loop-at.invariant.2 w) (beside _ _ _ _ (unwon_more p won at w))),
     )
 
@@ -35,8 +35,8 @@ returns c = (
   omega (arith, c.loop-at.invariant.0),
   (λ k. (
     (λ e.
-    let l : k < length c.loop-at.flags.items = flag-below c.loop-at.flags.items k e in
-    (omega (arith, c.loop-at.invariant.0), (c.loop-at.invariant.1 k (omega (arith, c.loop-at.invariant.0))).0 e)),
+        let l : k < length c.loop-at.flags.items = flag-below c.loop-at.flags.items k e in
+        (omega (arith, c.loop-at.invariant.0), (c.loop-at.invariant.1 k (omega (arith, c.loop-at.invariant.0))).0 e)),
     (λ r. (c.loop-at.invariant.1 k (omega (arith, r.0))).1 r.1),
   )),
 )
