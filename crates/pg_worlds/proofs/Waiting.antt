@@ -2,12 +2,12 @@
 use Rattle.std.proofs.Common.{◌≡◌, ℕ, ◌+◌, ◌<◌, Bool, true, false, not, ◌||◌, eqb, cond, List, [], ◌∷◌, ◌++◌, length, set, refl, sym, ap, ◌∙◌, subst, inl, inr, arith}
 use Rattle.std.specs.Prelude.{◌↔◌, ◌⊎◌, slice_index, IsTrue}
 use Rattle.std.specs.List.{list_any}
-use Rattle.std.proofs.lemmas.Bool.{cases_Bool, cases_eq, cases_lt, eq-eqb, ne_eqb, eqb-true, false≢true, or_cases, or_left, or_right}
+use Rattle.std.proofs.lemmas.Bool.{cases_Bool, cases_eq, cases_lt, eq-eqb, ne_eqb, false≢true, or_cases, or_left, or_right}
 use Rattle.std.proofs.lemmas.List.{get_or_past, get_or_append_left, get_or_push}
 use Rattle.std.proofs.lemmas.List.Folds.{list_any_at}
 use Rattle.pg_worlds.specs.Flags.{has, flag}
 use Rattle.pg_worlds.specs.Worlds.{Worlds, needs_of, world_count, IsGraph, IsWorldOrder}
-use Rattle.pg_worlds.specs.Course.{Plan, IsPlan, Needs, IsBefore, IsOpen, HasUnwon, IsWaiting, world_of}
+use Rattle.pg_worlds.specs.Course.{Plan, Needs, IsBefore, IsOpen, HasUnwon, IsWaiting, world_of}
 use Rattle.pg_worlds.proofs.Standing.{has_place}
 use Rattle.pg_worlds.proofs.Flagged.{flag-set}
 use Rattle.pg_worlds.proofs.Reached.{apart, in_range}

@@ -162,11 +162,13 @@ impl Course {
         }
         Ok(won)
     }
+
     // Sets the flag of the world of the level at this place, if the level isn't won.
     fn mark_unwon(&self, won: &[bool], at: usize, worlds: &mut [bool; MOST_WORLDS])
         requires won { length won.now ≡ length self.now.levels }
         requires at { at < length self.now.levels }
-        ensures { (w : ℕ) → IsTrue (flag worlds.new w) ↔ (IsTrue (flag worlds.old w) ⊎ ((world_of self.now at ≡ w) × (flag won.now at ≡ false))) }
+        ensures { (w : ℕ) → IsTrue (flag worlds.new w)
+            ↔ (IsTrue (flag worlds.old w) ⊎ ((world_of self.now at ≡ w) × (flag won.now at ≡ false))) }
     {
         if !won[at] {
             worlds[self.world(at) as usize] = true;
@@ -202,8 +204,8 @@ impl Course {
         waiting
     }
 
-    /// For each level, whether it is open: the answers of `is_open`, in the time of one pass over the levels and one
-    /// over the needs of the worlds. `won` has one flag for each level.
+    /// For each level, whether it is open: the answers of `is_open`, found in two passes over the
+    /// levels. `won` has one flag for each level.
     pub fn open_levels(&self, alloc: Global, won: &[bool]) -> Result<Vec<bool>, AllocError>
         requires { length won.now ≡ length self.now.levels }
         ensures { IfOk result (λ flags. AreOpen self.now won.now flags.items) }

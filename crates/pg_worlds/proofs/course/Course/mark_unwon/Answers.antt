@@ -1,4 +1,4 @@
-use Rattle.std.proofs.Common.{◌<◌, length, arith}
+use Rattle.std.proofs.Common.{arith}
 use Rattle.pg_worlds.proofs.Waiting.{marked}
 use Rattle.pg_worlds.proofs.course.Course.mark_unwon.Goals as goal
 

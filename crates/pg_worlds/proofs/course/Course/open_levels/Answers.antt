@@ -1,4 +1,4 @@
-use Rattle.std.proofs.Common.{◌≡◌, ◌+◌, ◌<◌, ℕ, Bool, List, not, inl, inr, sym, subst, length, arith}
+use Rattle.std.proofs.Common.{◌+◌, ◌<◌, ℕ, Bool, List, not, inl, inr, sym, subst, length, arith}
 use Rattle.std.specs.Prelude.{◌↔◌, IsTrue}
 use Rattle.pg_worlds.specs.Flags.{flag}
 use Rattle.pg_worlds.specs.Course.{IsOpen, world_of}

@@ -1,4 +1,4 @@
-use Rattle.std.proofs.Common.{◌≡◌, ◌∙◌, ◌<◌, sym, ap, subst, length, arith}
+use Rattle.std.proofs.Common.{◌∙◌, ◌<◌, sym, ap, subst, length, arith}
 use Rattle.std.proofs.lemmas.List.{get_or-map, length-map}
 use Rattle.pg_worlds.specs.declared.course.LevelItems.{LevelItems}
 use Rattle.pg_worlds.specs.Course.{Level, Plan, IsPlan, no_level, world_of}
