@@ -4,7 +4,7 @@ use Rattle.std.specs.Prelude.{slice_index, flat_map}
 use Rattle.std.proofs.lemmas.Bool.{cases_lt}
 use Rattle.std.proofs.lemmas.List.{get_or_append_left, get_or-append_right, get_or-replicate, get_or-map, length-append, length-replicate, length-map}
 use Rattle.pg_worlds.specs.Flags.{has}
-use Rattle.pg_worlds.specs.Worlds.{Worlds, needs_of, IsGraph, IsWorldOrder}
+use Rattle.pg_worlds.specs.Worlds.{Worlds, needs_of, world_count, IsGraph, IsWorldOrder}
 use Rattle.pg_worlds.specs.Course.{Level, no_level, Plan, IsPlan, Needs, IsBefore, world_of}
 use Rattle.pg_worlds.proofs.Standing.{has_place}
 use Rattle.pg_worlds.proofs.Reached.{apart, in_range}
@@ -64,3 +64,14 @@ earlier p plan level k h before =
                 absurd (behind_all p.worlds p.order plan.graph plan.ordered r.0 (world_of p level) (r.4 ∙ at level h) r.1 (world_of p k) r.2 r.3 (r.5 ∙ at k before.0) needed)
           ]
     ]
+
+-- the world of a level is one of the 64
+pub world_below : (p : Plan) → IsPlan p → (k : ℕ) → k < length p.levels → world_of p k < 64
+world_below p plan k h =
+    let times : ℕ → ℕ = slice_index p.worlds.levels in
+    let flat : List ℕ = flat_map (λ w. replicate (times w) w) p.order in
+    let long : length flat ≡ length p.levels = sym (ap length plan.by_world) ∙ length-map p.levels (λ (l : Level). l.world) in
+    let r = later_place times p.order k k (omega arith) (omega arith) in
+    let here : slice_index p.order r.0 ≡ world_of p k = r.4 ∙ sym (ap (λ (xs : List ℕ). slice_index xs k) plan.by_world) ∙ get_or-map (λ (l : Level). l.world) p.levels k no_level 0 h in
+    let l : slice_index p.order r.0 < world_count p.worlds = (plan.ordered.first_each_time r.0 (omega (arith, r.2, r.3))).0 in
+    omega (arith, plan.graph.at_most)

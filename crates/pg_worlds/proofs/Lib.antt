@@ -6,4 +6,5 @@ pub mod Places
 pub mod Reached
 pub mod Rounds
 pub mod Standing
+pub mod Waiting
 pub mod Won

@@ -71,3 +71,15 @@ IsFirstMissing p won level k = IsBefore p level k × (flag won k ≡ false) × (
 -- just the levels before it are won
 abbrev pub IsLeastWon : Plan → ℕ → List Bool → Type 0
 IsLeastWon p level won = (length won ≡ length p.levels) × ((k : ℕ) → IsTrue (flag won k) ↔ IsBefore p level k)
+
+-- a level of the world, before place n, isn't won
+abbrev pub HasUnwon : Plan → List Bool → ℕ → ℕ → Type 0
+HasUnwon p won n w = (k : ℕ) × (k < n) × (world_of p k ≡ w) × (flag won k ≡ false)
+
+-- a level of a world that it needs isn't won
+abbrev pub IsWaiting : Plan → List Bool → ℕ → Type 0
+IsWaiting p won w = (b : ℕ) × Needs p.worlds w b × HasUnwon p won (length p.levels) b
+
+-- just the open levels have their flag
+abbrev pub AreOpen : Plan → List Bool → List Bool → Type 0
+AreOpen p won flags = (length flags ≡ length p.levels) × ((k : ℕ) → IsTrue (flag flags k) ↔ ((k < length p.levels) × IsOpen p won k))

@@ -1,8 +1,8 @@
 // The levels in their order, and which of them are open.
-ghost use Rattle.std.specs.Prelude.{◌≡◌, ◌↔◌, ◌<◌, ◌≤◌, ◌⊎◌, ℕ, length, vec_len, IfOk, IsTrue, MatchOption, IfSome};
+ghost use Rattle.std.specs.Prelude.{◌≡◌, ◌↔◌, ◌<◌, ◌≤◌, ◌⊎◌, ℕ, length, vec_len, IfOk, IsTrue, MatchOption, IfSome, false};
 ghost use Rattle.pg_worlds.specs.Flags.{flag};
 
-use crate::flags::has_flag;
+use crate::flags::{has_any_flag, has_flag};
 use crate::graph::{Graph, MOST_WORLDS, no_worlds};
 use crate::tactic_name::TacticName;
 use std::alloc::{AllocError, Global};
@@ -55,7 +55,7 @@ impl Model for Course {
 }
 
 impl Course {
-    ghost use Rattle.pg_worlds.specs.Course.{level_at, world_of, Needs, IsBefore, IsFirstMissing, IsLeastWon, IsOpen, IsPlan};
+    ghost use Rattle.pg_worlds.specs.Course.{level_at, world_of, Needs, IsBefore, IsFirstMissing, IsLeastWon, IsOpen, IsPlan, AreOpen, HasUnwon, IsWaiting};
     ghost use Rattle.pg_worlds.specs.View.{level_of, plan_of};
 
     /// The course of these worlds, in an order of the graph, and of these levels in the order of levels. Takes no memory.
@@ -84,6 +84,15 @@ impl Course {
         ensures { level_of result.now ≡ level_at self.now at }
     {
         &self.items[at]
+    }
+
+    // The world of the level at this place.
+    fn world(&self, at: usize) -> u16
+        requires { at < length self.now.levels }
+        ensures world { result ≡ world_of self.now at }
+        ensures below { result < 64 }
+    {
+        self.items[at].world
     }
 
     // Which worlds this world needs, directly or through others.
@@ -152,5 +161,61 @@ impl Course {
             won.push(self.is_before(&needed, level.0 as usize, at))?;
         }
         Ok(won)
+    }
+
+    // Sets the flag of the world of the level at this place, if the level isn't won.
+    fn mark_unwon(&self, won: &[bool], at: usize, worlds: &mut [bool; MOST_WORLDS])
+        requires won { length won.now ≡ length self.now.levels }
+        requires at { at < length self.now.levels }
+        ensures { (w : ℕ) → IsTrue (flag worlds.new w)
+            ↔ (IsTrue (flag worlds.old w) ⊎ ((world_of self.now at ≡ w) × (flag won.now at ≡ false))) }
+    {
+        if !won[at] {
+            worlds[self.world(at) as usize] = true;
+        }
+    }
+
+    // The worlds with a level that isn't won.
+    fn unwon_worlds(&self, won: &[bool]) -> [bool; MOST_WORLDS]
+        requires { length won.now ≡ length self.now.levels }
+        ensures { (w : ℕ) → IsTrue (flag result w) ↔ HasUnwon self.now won.now (length self.now.levels) w }
+    {
+        let mut unwon = no_worlds();
+        for at in 0..self.count() {
+            self.mark_unwon(won, at, &mut unwon);
+        }
+        unwon
+    }
+
+    // The worlds that need, directly or through others, a world with a level that isn't won.
+    fn waiting_worlds(&self, won: &[bool]) -> [bool; MOST_WORLDS]
+        requires { length won.now ≡ length self.now.levels }
+        ensures { (w : ℕ) → IsTrue (flag result w) ↔ IsWaiting self.now won.now w }
+    {
+        let unwon = self.unwon_worlds(won);
+        let mut waiting = no_worlds();
+        for at in 0..self.order.len() {
+            let world = self.order[at];
+            let needs = self.graph.needs(world);
+            if has_any_flag(&unwon, needs) || has_any_flag(&waiting, needs) {
+                waiting[world as usize] = true;
+            }
+        }
+        waiting
+    }
+
+    /// For each level, whether it is open: the answers of `is_open`, found in two passes over the
+    /// levels. `won` has one flag for each level.
+    pub fn open_levels(&self, alloc: Global, won: &[bool]) -> Result<Vec<bool>, AllocError>
+        requires { length won.now ≡ length self.now.levels }
+        ensures { IfOk result (λ flags. AreOpen self.now won.now flags.items) }
+    {
+        let mut closed = self.waiting_worlds(won);
+        let mut flags = Vec::with_capacity(alloc, self.count())?;
+        for at in 0..self.count() {
+            flags.push(!closed[self.world(at) as usize])?;
+            self.mark_unwon(won, at, &mut closed);
+        }
+        Ok(flags)
     }
 }

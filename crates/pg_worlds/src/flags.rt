@@ -54,6 +54,13 @@ pub(crate) fn has_all_flags(flags: &[bool], worlds: &[u16]) -> bool
     worlds.iter().all(|w| has_flag(flags, *w as usize))
 }
 
+// Whether the flag of one of these worlds stands.
+pub(crate) fn has_any_flag(flags: &[bool], worlds: &[u16]) -> bool
+    ensures { result ≡ list_any (flag flags.now) worlds.now }
+{
+    worlds.iter().any(|w| has_flag(flags, *w as usize))
+}
+
 // The first of these worlds whose flag doesn't stand.
 pub(crate) fn first_without_flag(flags: &[bool], worlds: &[u16]) -> Option<u16>
     ensures { result ≡ find (λ w. not (flag flags.now w)) worlds.now }

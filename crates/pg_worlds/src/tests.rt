@@ -289,6 +289,73 @@ fn the_least_won_levels_are_those_before(rt: HostRuntime) -> Result<(), Fail> {
     Ok(())
 }
 
+// Which levels of the game are open, where these are won.
+fn open(alloc: Global, game: &Course, won: &[bool]) -> Result<Vec<bool>, Fail> {
+    if won.len() != game.count() {
+        return Err(Fail::from("no flag for each level"));
+    }
+    Ok(game.open_levels(alloc, won)?)
+}
+
+#[test]
+fn the_open_levels_are_those_with_all_before_them_won(rt: HostRuntime) -> Result<(), Fail> {
+    let alloc = rt.alloc();
+    let game = three_worlds(alloc)?;
+    // Where nothing is won, only the first level of the world that needs none is open.
+    assert_eq!(rt;
+        open(alloc, &game, [false, false, false, false].as_slice())?.as_slice(),
+        [true, false, false, false].as_slice()
+    );
+    assert_eq!(rt;
+        open(alloc, &game, [true, true, true, true].as_slice())?.as_slice(),
+        [true, true, true, true].as_slice()
+    );
+    // Level 1 was won before level 0, so it is closed, as is all that needs A.
+    assert_eq!(rt;
+        open(alloc, &game, [false, true, false, false].as_slice())?.as_slice(),
+        [true, false, false, false].as_slice()
+    );
+    // B is done and A isn't, so C, which needs A through B, is closed.
+    assert_eq!(rt;
+        open(alloc, &game, [true, false, true, false].as_slice())?.as_slice(),
+        [true, true, false, false].as_slice()
+    );
+    assert_eq!(rt;
+        open(alloc, &game, [true, true, false, true].as_slice())?.as_slice(),
+        [true, true, true, false].as_slice()
+    );
+    Ok(())
+}
+
+// World A with level 0, B without levels, C with levels 1 and 2, and D with level 3; C needs B, and B needs A.
+fn world_without_levels(alloc: Global) -> Result<Course, Fail> {
+    let mut items = Vec::new(alloc);
+    for world in [0, 2, 2, 3] {
+        items.push(plain(alloc, world))?;
+    }
+    course(
+        alloc,
+        [1, 0, 2, 1].as_slice(),
+        [[].as_slice(), [0].as_slice(), [1].as_slice(), [].as_slice()].as_slice(),
+        items,
+    )
+}
+
+#[test]
+fn a_world_without_levels_passes_its_needs_on(rt: HostRuntime) -> Result<(), Fail> {
+    let alloc = rt.alloc();
+    let game = world_without_levels(alloc)?;
+    assert_eq!(rt;
+        open(alloc, &game, [false, true, false, false].as_slice())?.as_slice(),
+        [true, false, false, true].as_slice()
+    );
+    assert_eq!(rt;
+        open(alloc, &game, [true, true, false, false].as_slice())?.as_slice(),
+        [true, true, true, true].as_slice()
+    );
+    Ok(())
+}
+
 // ---- inventories
 
 #[derive(Clone, Copy)]
