@@ -7,6 +7,9 @@ pub mod Found
 pub mod Items
 pub mod Laid
 pub mod Lists
+pub mod Moves
+pub mod Phrases
+pub mod Pieces
 pub mod Places
 pub mod Promises
 pub mod Readers
