@@ -17,55 +17,53 @@ use Rattle.pg_script.specs.Blocks.{steps_of, move_at}
 use Rattle.pg_script.specs.Forms.{is_open, is_close, count, IsPiece, piece, IsExpression, applied, enclosed, AreNames, IsPlace, nowhere, at_name, IsRule, forwards, backwards, AreRules, last_rule, more_rules, AreTerms, last_term, more_terms, IsShallow, IsForm, a_plain, an_exact, an_intro, an_apply, a_rewrite, a_split, a_split_with, a_use, a_symm, a_have, a_have_by, a_have_of, a_revert, a_by_cases, an_unknown, IsMove}
 use Rattle.pg_script.proofs.Found.{clash, and_then_ok, inj}
 use Rattle.pg_script.proofs.Pieces.{no_way, other_way, differ, open_mark, close_mark, Ends, part_read, PartFound, part_found}
+use Rattle.pg_script.proofs.Shallow.{some_none}
 use Rattle.pg_script.proofs.Phrases.{BeginsNone, none_begins, expr_read, expr_found, ended_ok, exact_read, exact_found}
 
-some-none : {A : Type 0} (e : ScriptFault) → (let o : Option ScriptFault = Some e in o) ≡ None → A
-some-none e h = cc
-
-unless-ok : {V : Type 0} (f : Option ScriptFault) (x y : V) → unless_fault f x ≡ Ok y → (f ≡ None) × (x ≡ y)
+pub unless-ok : {V : Type 0} (f : Option ScriptFault) (x y : V) → unless_fault f x ≡ Ok y → (f ≡ None) × (x ≡ y)
 unless-ok None x y h = (refl, inj x y h)
 unless-ok (Some e) x y h = absurd (clash e y h)
 
 -- ---- names
 
-names-read : (ws : List Word) → AreNames ws → names_fault ws ≡ None
+pub names-read : (ws : List Word) → AreNames ws → names_fault ws ≡ None
 names-read [] h = refl
 names-read (w ∷ ws) h = ap (λ b. if b then names_fault ws else Some (Expected w.at wanted.Name)) h.0 ∙ names-read ws h.1
 
-names-found : (ws : List Word) → names_fault ws ≡ None → AreNames ws
+pub names-found : (ws : List Word) → names_fault ws ≡ None → AreNames ws
 names-found [] h = tt
 names-found (w ∷ ws) h =
     elim (is_name w) as (λ b. is_name w ≡ b → (if b then names_fault ws else Some (Expected w.at wanted.Name)) ≡ None → AreNames (w ∷ ws)) [
       | true ↦ λ e g. (e, names-found ws g)
-      | false ↦ λ e g. some-none (Expected w.at wanted.Name) g
+      | false ↦ λ e g. some_none (Expected w.at wanted.Name) g
     ] refl h
 
-steps-read : (room : ℕ) (ws : List Word) → AreNames ws → length ws ≤ room → steps_fault room ws ≡ None
+pub steps-read : (room : ℕ) (ws : List Word) → AreNames ws → length ws ≤ room → steps_fault room ws ≡ None
 steps-read room [] h le = refl
 steps-read zero (w ∷ ws) h le = absurd (omega (arith, le))
 steps-read (suc room) (w ∷ ws) h le = ap (λ b. if b then steps_fault room ws else Some (Expected w.at wanted.Name)) h.0 ∙ steps-read room ws h.1 (omega (arith, le))
 
-steps-found : (room : ℕ) (ws : List Word) → steps_fault room ws ≡ None → AreNames ws × (length ws ≤ room)
+pub steps-found : (room : ℕ) (ws : List Word) → steps_fault room ws ≡ None → AreNames ws × (length ws ≤ room)
 steps-found room [] h = (tt, omega arith)
 steps-found zero (w ∷ ws) h =
     elim (is_name w) as (λ b. (if b then Some (TooMany w.at) else Some (Expected w.at wanted.Name)) ≡ None → AreNames (w ∷ ws) × (length (w ∷ ws) ≤ 0)) [
-      | true ↦ λ g. some-none (TooMany w.at) g
-      | false ↦ λ g. some-none (Expected w.at wanted.Name) g
+      | true ↦ λ g. some_none (TooMany w.at) g
+      | false ↦ λ g. some_none (Expected w.at wanted.Name) g
     ] h
 steps-found (suc room) (w ∷ ws) h =
     elim (is_name w) as (λ b. is_name w ≡ b → (if b then steps_fault room ws else Some (Expected w.at wanted.Name)) ≡ None → AreNames (w ∷ ws) × (length (w ∷ ws) ≤ suc room)) [
       | true ↦ λ e g. let f = steps-found room ws g in ((e, f.0), omega (arith, f.1))
-      | false ↦ λ e g. some-none (Expected w.at wanted.Name) g
+      | false ↦ λ e g. some_none (Expected w.at wanted.Name) g
     ] refl h
 
-name-read : (end : ℕ) (w : Word) (ws : List Word) → IsTrue (is_name w) → name_at end (w ∷ ws) ≡ Ok (w, ws)
+pub name-read : (end : ℕ) (w : Word) (ws : List Word) → IsTrue (is_name w) → name_at end (w ∷ ws) ≡ Ok (w, ws)
 name-read end w ws h = ap (λ b. if b then Ok (w, ws) else Err (Expected w.at wanted.Name)) h
 
-record NameFound (ws : List Word) (p : Word × List Word) : Type 0 where
-  name : IsTrue (is_name p.0)
-  whole : ws ≡ p.0 ∷ p.1
+pub record NameFound (ws : List Word) (p : Word × List Word) : Type 0 where
+  pub name : IsTrue (is_name p.0)
+  pub whole : ws ≡ p.0 ∷ p.1
 
-name-found : (end : ℕ) (ws : List Word) (p : Word × List Word) → name_at end ws ≡ Ok p → NameFound ws p
+pub name-found : (end : ℕ) (ws : List Word) (p : Word × List Word) → name_at end ws ≡ Ok p → NameFound ws p
 name-found end [] p h = absurd (clash (Expected end wanted.Name) p h)
 name-found end (w ∷ ws) p h =
     elim (is_name w) as (λ b. is_name w ≡ b → (if b then Ok (w, ws) else Err (Expected w.at wanted.Name)) ≡ Ok p → NameFound (w ∷ ws) p) [
@@ -81,12 +79,12 @@ place_mark end m at ws = elim m [
   | _ ↦ Err (Expected at wanted.SignOrEnd)
 ]
 
-place-read : {ws : List Word} {h : Option Word} (end : ℕ) → IsPlace ws h → place_at end ws ≡ Ok h
+pub place-read : {ws : List Word} {h : Option Word} (end : ℕ) → IsPlace ws h → place_at end ws ≡ Ok h
 place-read end nowhere = refl
 place-read end (at_name a x ha hx) =
     ap (λ m. place_mark end m a.at (x ∷ [])) ha ∙ ap (λ r. and_then r (λ p. ended (let o : Option Word = Some p.0 in o) p.1)) (name-read end x [] hx)
 
-place-begins : {ws : List Word} {h : Option Word} → IsPlace ws h → BeginsNone ws
+pub place-begins : {ws : List Word} {h : Option Word} → IsPlace ws h → BeginsNone ws
 place-begins nowhere = tt
 place-begins (at_name a x ha hx) = none_begins a (x ∷ []) AtWord ha refl
 
@@ -101,7 +99,7 @@ place-by end w ws h AtWord hm e =
     subst P whole (subst Q k.1 (at_name w n.0.0 hm f.name))
 place-by end w ws h m hm e = absurd (clash (Expected w.at wanted.SignOrEnd) h e)
 
-place-found : (end : ℕ) (ws : List Word) (h : Option Word) → place_at end ws ≡ Ok h → IsPlace ws h
+pub place-found : (end : ℕ) (ws : List Word) (h : Option Word) → place_at end ws ≡ Ok h → IsPlace ws h
 place-found end [] h e = let P : Option Word → Type 0 = IsPlace [] in subst P (inj None h e) nowhere
 place-found end (w ∷ ws) h e = place-by end w ws h (mark w) refl e
 
@@ -157,7 +155,7 @@ rules_behind room end r q = if q.0 then with_first r (rules_at room end q.1) els
 abbrev rules_after : (room end : ℕ) → Rule × List Word → Read (List Rule × List Word)
 rules_after room end p = and_then (rule_end end p.1) (λ q. rules_behind room end p.0 q)
 
-rules-read : {end : ℕ} {ws next : List Word} {rs : List Rule} (room : ℕ) → AreRules end ws next rs → length rs ≤ room → rules_at room end (ws ++ next) ≡ Ok (rs, next)
+pub rules-read : {end : ℕ} {ws next : List Word} {rs : List Rule} (room : ℕ) → AreRules end ws next rs → length rs ≤ room → rules_at room end (ws ++ next) ≡ Ok (rs, next)
 rules-read zero (last_rule ws next b r i hb) le = absurd (omega (arith, le))
 rules-read zero (more_rules ws vs next c r rs i hc k) le = absurd (omega (arith, le))
 rules-read {end = end} (suc room) (last_rule ws next b r i hb) le =
@@ -170,19 +168,20 @@ rules-read {end = end} (suc room) (more_rules ws vs next c r rs i hc k) le =
     ∙ ap (λ m. and_then (end_mark m c.at (vs ++ next)) (rules_behind room end r)) hc
     ∙ ap (with_first r) (rules-read room k (omega (arith, le)))
 
-rules-some : {end : ℕ} {ws next : List Word} {rs : List Rule} → AreRules end ws next rs → 0 < length rs
+pub rules-some : {end : ℕ} {ws next : List Word} {rs : List Rule} → AreRules end ws next rs → 0 < length rs
 rules-some (last_rule ws next b r i hb) = omega arith
 rules-some (more_rules ws vs next c r rs i hc k) = omega arith
 
-record RulesIn (room end : ℕ) (ws : List Word) (p : List Rule × List Word) : Type 0 where
-  front : List Word
-  whole : ws ≡ front ++ p.1
-  rules_are : AreRules end front p.1 p.0
-  few : length p.0 ≤ room
+pub record RulesIn (room end : ℕ) (ws : List Word) (p : List Rule × List Word) : Type 0 where
+  pub front : List Word
+  pub whole : ws ≡ front ++ p.1
+  pub rules_are : AreRules end front p.1 p.0
+  pub few : length p.0 ≤ room
 
 -- what ends a rule
 abbrev RuleEnd : Word → Bool → Type 0
-RuleEnd c b = if b then mark c ≡ Comma else mark c ≡ CloseBracket
+RuleEnd c true = mark c ≡ Comma
+RuleEnd c false = mark c ≡ CloseBracket
 
 end-by : (c : Word) (cs : List Word) (q : Bool × List Word) (m : Mark) → mark c ≡ m → end_mark m c.at cs ≡ Ok q → RuleEnd c q.0 × (cs ≡ q.1)
 end-by c cs q Comma hm h = let P : Bool × List Word → Type 0 = λ x. RuleEnd c x.0 × (cs ≡ x.1) in subst P (inj (true, cs) q h) (hm, refl)
@@ -227,7 +226,7 @@ behind-found room end ws r behind c false rest p i is hc rec h =
       few = omega arith;
     })
 
-rules-found : (room end : ℕ) (ws : List Word) (p : List Rule × List Word) → rules_at room end ws ≡ Ok p → RulesIn room end ws p
+pub rules-found : (room end : ℕ) (ws : List Word) (p : List Rule × List Word) → rules_at room end ws ≡ Ok p → RulesIn room end ws p
 rules-found zero end ws p h = absurd (clash (no_rule end ws) p h)
 rules-found (suc room) end ws p h =
     let m = and_then_ok (rule_at end ws) (rules_after room end) p h in
@@ -241,11 +240,11 @@ comma-stops : (m : Mark) → IsTrue (stops until.Comma m) → m ≡ Comma
 comma-stops Comma h = refl
 comma-stops m h = other_way h
 
-assign-stops : (m : Mark) → IsTrue (stops until.Assign m) → m ≡ Assign
+pub assign-stops : (m : Mark) → IsTrue (stops until.Assign m) → m ≡ Assign
 assign-stops Assign h = refl
 assign-stops m h = other_way h
 
-terms-read : {end : ℕ} {ws : List Word} {ps : List Part} (room : ℕ) → AreTerms end ws ps → length ps ≤ room → terms_at room end ws ≡ Ok ps
+pub terms-read : {end : ℕ} {ws : List Word} {ps : List Part} (room : ℕ) → AreTerms end ws ps → length ps ≤ room → terms_at room end ws ≡ Ok ps
 terms-read zero (last_term ws i) le = absurd (omega (arith, le))
 terms-read zero (more_terms ws vs c ps i hc k) le = absurd (omega (arith, le))
 terms-read {end = end} (suc room) (last_term ws i) le =
@@ -254,7 +253,7 @@ terms-read {end = end} (suc room) (more_terms ws vs c ps i hc k) le =
     ap (λ r. and_then r (λ p. terms_after p.0 p.1 (λ rest. terms_at room end rest))) (part_read wanted.Term until.Comma end ws (c ∷ vs) i (ap (stops until.Comma) hc))
     ∙ ap (before (piece end ws (c ∷ vs))) (terms-read room k (omega (arith, le)))
 
-terms-some : {end : ℕ} {ws : List Word} {ps : List Part} → AreTerms end ws ps → 0 < length ps
+pub terms-some : {end : ℕ} {ws : List Word} {ps : List Part} → AreTerms end ws ps → 0 < length ps
 terms-some (last_term ws i) = omega arith
 terms-some (more_terms ws vs c ps i hc k) = omega arith
 
