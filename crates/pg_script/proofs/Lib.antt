@@ -14,6 +14,7 @@ pub mod Pieces
 pub mod Places
 pub mod Promises
 pub mod Readers
+pub mod Rows
 pub mod Shallow
 pub mod Shapes
 pub mod Starts

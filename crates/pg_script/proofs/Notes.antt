@@ -110,7 +110,7 @@ by-options at end t (hidden_alone ws b i) ht = options-read at end (ws ++ t ∷ 
 by-options at end t (strict_alone ws b i) ht = options-read at end (ws ++ t ∷ []) (with_option option.Strict b no_flags) t ht (one-read end ws option.Strict b t i ht refl)
 by-options at end t (hidden_first ws vs b d i k) ht =
     options-read at end ((ws ++ vs) ++ t ∷ []) (with_option option.Strict d (with_option option.Hidden b no_flags)) t ht (two-read end ws vs option.Hidden option.Strict b d t i k refl refl)
-by-options at end t (strict_first ws vs b d i k) ht =
+by-options at end t (strict_first ws vs d b i k) ht =
     options-read at end ((ws ++ vs) ++ t ∷ []) (with_option option.Hidden d (with_option option.Strict b no_flags)) t ht (two-read end ws vs option.Strict option.Hidden b d t i k refl refl)
 
 hint-read : {at : ℕ} {ws : List Word} {h : Remark} (end : ℕ) → IsHint at ws h → hint_at at end ws ≡ Ok h
@@ -260,7 +260,7 @@ one-option option.Strict b ws rest i = (ws, refl, strict_alone ws b i)
 two-options : (o u : HintOption) (b d : Bool) (ws vs rest : List Word) → IsOption (option_text o) b ws → IsOption (option_text u) d vs → given u (with_option o b no_flags) ≡ None
     → Options (ws ++ (vs ++ rest)) (with_option u d (with_option o b no_flags), rest)
 two-options option.Hidden option.Strict b d ws vs rest i k g = (ws ++ vs, sym (append_assoc ws vs rest), hidden_first ws vs b d i k)
-two-options option.Strict option.Hidden b d ws vs rest i k g = (ws ++ vs, sym (append_assoc ws vs rest), strict_first ws vs b d i k)
+two-options option.Strict option.Hidden b d ws vs rest i k g = (ws ++ vs, sym (append_assoc ws vs rest), strict_first ws vs d b i k)
 two-options option.Hidden option.Hidden b d ws vs rest i k g = some-nothing b g
 two-options option.Strict option.Strict b d ws vs rest i k g = some-nothing b g
 

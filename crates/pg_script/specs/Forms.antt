@@ -97,7 +97,9 @@ IsShallow ws = (xs ys zs : List Word) → ws ≡ xs ++ (ys ++ zs) → count is_o
 
 -- ---- moves
 
--- what stands behind a move's word
+-- What stands behind a move's word: nothing; `exact e`; `intro x y ..`; `apply e`, `apply e at h`; `rw [r, ..]`, `rw [r, ..] at h`;
+-- `induction n`, `induction n with d hd`; `use t, ..`; `symm`, `symm at h`; `have h : A`; `have h := e`; `have h : A := e`;
+-- `revert x`; `by_cases h : A`; and any tokens behind a word that no move has.
 pub data IsForm (end : ℕ) : Head → List Word → Shape → Type 0 where
   a_plain : IsForm end head.Plain [] plain
   an_exact : (ws : List Word) (e : Expression) → IsExpression end 0 ws [] e → IsForm end head.Exact ws (exact e)
