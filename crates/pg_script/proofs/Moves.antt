@@ -1,24 +1,20 @@
 -- Moves are read by their forms, and what is read has its form.
-use Rattle.std.proofs.Common.{◌≡◌, ◌∙◌, ℕ, zero, suc, ◌+◌, ◌-◌, ◌<◌, ◌≤◌, Bool, true, false, List, [], ◌∷◌, ◌++◌, length, refl, sym, ap, subst, arith, append_assoc, append-nil, Option, Some, None, Ok, Err, if◌then◌else◌, IsTrue, IsFalse, ◌==◌, nat_le, leb-false}
-use Rattle.std.proofs.lemmas.Bool.{lt-leb}
+use Rattle.std.proofs.Common.{◌≡◌, ◌∙◌, ℕ, zero, suc, ◌<◌, ◌≤◌, Bool, true, false, List, [], ◌∷◌, ◌++◌, length, refl, sym, ap, subst, arith, append_assoc, append-nil, Option, Some, None, Ok, Err, if◌then◌else◌, IsTrue}
 use Rattle.pg_base.specs.declared.token.Wanted.TheVariants as wanted
 use Rattle.pg_base.specs.Tokens.{Word}
 use Rattle.pg_script.specs.declared.fault.ScriptFault.{ScriptFault}
-use Rattle.pg_script.specs.declared.fault.ScriptFault.TheVariants.{Expected, TooMany, Deep}
+use Rattle.pg_script.specs.declared.fault.ScriptFault.TheVariants.{Expected, TooMany}
 use Rattle.pg_script.specs.declared.mark.Mark.{Mark}
-use Rattle.pg_script.specs.declared.mark.Mark.TheVariants.{Open, Close, OpenBracket, CloseBracket, Comma, Colon, Assign, LeftArrow, Free, With, At as AtWord}
+use Rattle.pg_script.specs.declared.mark.Mark.TheVariants.{CloseBracket, Comma, Assign, LeftArrow, At as AtWord}
 use Rattle.pg_script.specs.declared.span.Until.TheVariants as until
-use Rattle.pg_script.specs.declared.head.Head.{Head}
-use Rattle.pg_script.specs.declared.head.Head.TheVariants as head
-use Rattle.pg_script.specs.Data.{Part, Expression, Rule, Shape, plain, exact, intro, apply, rewrite, split, uses, symm, have, revert, by_cases, unknown, Step}
+use Rattle.pg_script.specs.Data.{Part, Expression, Rule}
 use Rattle.pg_script.specs.Marks.{mark, is_name}
-use Rattle.pg_script.specs.Lines.{Read, and_then, unless_fault, with_first, before, stops, may_end, part_at, expr_at, ended, name_at, names_fault, steps_fault, place_at, deep_fault, rule_at, no_rule, rule_end, rules_at, bracketed_rules, no_term, terms_after, terms_at, exact_at, apply_at, rewrite_at, intro_at, names_after, split_at, have_after, have_formula, have_of, cases_of, shape_at, head_of}
-use Rattle.pg_script.specs.Blocks.{steps_of, move_at}
-use Rattle.pg_script.specs.Forms.{is_open, is_close, count, IsPiece, piece, IsExpression, applied, enclosed, AreNames, IsPlace, nowhere, at_name, IsRule, forwards, backwards, AreRules, last_rule, more_rules, AreTerms, last_term, more_terms, IsShallow, IsForm, a_plain, an_exact, an_intro, an_apply, a_rewrite, a_split, a_split_with, a_use, a_symm, a_have, a_have_by, a_have_of, a_revert, a_by_cases, an_unknown, IsMove}
+use Rattle.pg_script.specs.Lines.{Read, and_then, unless_fault, with_first, before, stops, part_at, expr_at, ended, name_at, names_fault, steps_fault, place_at, rule_at, no_rule, rule_end, rules_at, no_term, terms_after, terms_at}
+use Rattle.pg_script.specs.Forms.{IsPiece, piece, IsExpression, applied, enclosed, AreNames, IsPlace, nowhere, at_name, IsRule, forwards, backwards, AreRules, last_rule, more_rules, AreTerms, last_term, more_terms}
 use Rattle.pg_script.proofs.Found.{clash, and_then_ok, inj}
-use Rattle.pg_script.proofs.Pieces.{no_way, other_way, differ, open_mark, close_mark, Ends, part_read, PartFound, part_found}
+use Rattle.pg_script.proofs.Pieces.{other_way, Ends, part_read, part_found}
 use Rattle.pg_script.proofs.Shallow.{some_none}
-use Rattle.pg_script.proofs.Phrases.{BeginsNone, none_begins, expr_read, expr_found, ended_ok, exact_read, exact_found}
+use Rattle.pg_script.proofs.Phrases.{BeginsNone, none_begins, expr_read, expr_found, ended_ok}
 
 pub unless-ok : {V : Type 0} (f : Option ScriptFault) (x y : V) → unless_fault f x ≡ Ok y → (f ≡ None) × (x ≡ y)
 unless-ok None x y h = (refl, inj x y h)

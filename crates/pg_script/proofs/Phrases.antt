@@ -1,5 +1,5 @@
 -- Expressions are read, and what is read is an expression.
-use Rattle.std.proofs.Common.{◌≡◌, ◌∙◌, ℕ, zero, suc, ◌+◌, ◌-◌, ◌<◌, Bool, true, false, List, [], ◌∷◌, ◌++◌, length, take, drop, refl, sym, ap, subst, arith, append_assoc, append-nil, length-append, take-append-drop, Ok, Err, if◌then◌else◌, IsTrue, IsFalse, ◌==◌, nat_le, leb-false}
+use Rattle.std.proofs.Common.{◌≡◌, ◌∙◌, ℕ, zero, suc, ◌+◌, ◌-◌, ◌<◌, Bool, true, false, List, [], ◌∷◌, ◌++◌, length, take, drop, refl, sym, ap, subst, arith, append_assoc, append-nil, length-append, take-append-drop, Ok, Err, if◌then◌else◌, IsFalse, nat_le, leb-false}
 use Rattle.std.proofs.Math.Dec.{eqb-suc-zero}
 use Rattle.std.proofs.Math.Seq.{drop-nil}
 use Rattle.std.proofs.lemmas.Bool.{lt-leb}
@@ -12,7 +12,7 @@ use Rattle.pg_script.specs.declared.mark.Mark.TheVariants.{Open, Close, Free, Nu
 use Rattle.pg_script.specs.declared.span.Until.{Until}
 use Rattle.pg_script.specs.declared.span.Until.TheVariants as until
 use Rattle.pg_script.specs.Data.{Part, Expression}
-use Rattle.pg_script.specs.Marks.{mark, place}
+use Rattle.pg_script.specs.Marks.{mark}
 use Rattle.pg_script.specs.Lines.{Read, and_then, with_first, stops, more, length_until, part_of, arg_length, arg_step, args_from, with_name, after_close, closed, expr_at, ended, exact_at}
 use Rattle.pg_script.specs.Forms.{Matches, no_token, a_token, nested, piece, IsArgument, a_name, a_number, between, AreArguments, no_argument, argument, IsExpression, applied, enclosed}
 use Rattle.pg_script.proofs.Found.{clash, and_then_ok, inj}

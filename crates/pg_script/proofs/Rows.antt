@@ -7,7 +7,7 @@ use Rattle.pg_base.specs.declared.token.TokenKind.TheVariants as kind
 use Rattle.pg_base.specs.Tokens.{Word}
 use Rattle.pg_script.specs.declared.span.Until.TheVariants as until
 use Rattle.pg_script.specs.Data.{Expression, rewrite, have, Step}
-use Rattle.pg_script.specs.Forms.{no_token, a_token, piece, a_name, AreArguments, no_argument, argument, applied, at_name, forwards, backwards, AreRules, last_rule, more_rules, a_rewrite, a_have_of, IsMove}
+use Rattle.pg_script.specs.Forms.{no_token, a_token, piece, a_name, no_argument, argument, applied, at_name, forwards, backwards, AreRules, last_rule, more_rules, a_rewrite, a_have_of, IsMove}
 
 abbrev name : ℕ → List ℕ → Word
 name at text = record { kind = kind.Name; text = text; at = at; column = at; first = false }
@@ -91,10 +91,12 @@ have_row = record {
   at = refl;
   word = refl;
   form =
-      a_have_of have_h (a_sign 7 sign.Colon) (a_sign 15 sign.Assign) formula (have_e ∷ []) (alone have_e) refl refl
-      (omega arith, a_token until.Assign 0 (name 9 (codes "a")) (a_sign 11 sign.Equal ∷ name 13 (codes "b") ∷ []) refl refl refl
-      (a_token until.Assign 0 (a_sign 11 sign.Equal) (name 13 (codes "b") ∷ []) refl refl refl
-      (a_token until.Assign 0 (name 13 (codes "b")) [] refl refl refl (no_token until.Assign 0))))
+      a_have_of have_h (a_sign 7 sign.Colon) (a_sign 15 sign.Assign) formula (have_e ∷ []) (alone have_e) refl refl (
+        omega arith,
+        a_token until.Assign 0 (name 9 (codes "a")) (a_sign 11 sign.Equal ∷ name 13 (codes "b") ∷ []) refl refl refl
+            (a_token until.Assign 0 (a_sign 11 sign.Equal) (name 13 (codes "b") ∷ []) refl refl refl
+            (a_token until.Assign 0 (name 13 (codes "b")) [] refl refl refl (no_token until.Assign 0))),
+      )
       refl (applied 0 have_e [] [] [] refl (no_argument []));
   steps = omega arith;
 }

@@ -1,5 +1,5 @@
 -- Tokens that need not match: no parenthesis opens within 100 others exactly where no stretch opens over 100 more than it closes.
-use Rattle.std.proofs.Common.{◌≡◌, ◌∙◌, ℕ, zero, suc, ◌+◌, ◌-◌, ◌<◌, ◌≤◌, Bool, true, false, List, [], ◌∷◌, ◌++◌, refl, sym, ap, subst, arith, Option, Some, None, if◌then◌else◌, nat_le, leb-false}
+use Rattle.std.proofs.Common.{◌≡◌, ◌∙◌, ℕ, suc, ◌+◌, ◌-◌, ◌<◌, ◌≤◌, Bool, true, false, List, [], ◌∷◌, ◌++◌, refl, sym, ap, arith, Option, Some, None, if◌then◌else◌, nat_le, leb-false}
 use Rattle.std.proofs.lemmas.Bool.{lt-leb}
 use Rattle.pg_base.specs.Tokens.{Word}
 use Rattle.pg_script.specs.declared.fault.ScriptFault.{ScriptFault}
@@ -115,9 +115,9 @@ mark-read depth w ws Open hm rec f s =
     ∙ rec (depth + 1) (λ ys zs h. let k = front-first depth w ws ys zs true false (ap open_mark hm) (ap close_mark hm) f h in omega (arith, k))
 mark-read depth w ws Close hm rec f s =
     rec (depth - 1) (λ ys zs h.
-      let k = front-first depth w ws ys zs false true (ap open_mark hm) (ap close_mark hm) f h in
-      let n = s (w ∷ []) ys zs (ap (λ t. w ∷ t) h) in
-      omega (arith, k, n))
+    let k = front-first depth w ws ys zs false true (ap open_mark hm) (ap close_mark hm) f h in
+    let n = s (w ∷ []) ys zs (ap (λ t. w ∷ t) h) in
+    omega (arith, k, n))
 mark-read depth w ws m hm rec f s = rec depth (λ ys zs h. front-first depth w ws ys zs false false (ap open_mark hm) (ap close_mark hm) f h)
 
 deep-read : (depth : ℕ) (ws : List Word) → Fronts depth ws → IsShallow ws → deep_fault depth ws ≡ None

@@ -1,5 +1,5 @@
 -- A move is read exactly where it has its form and its steps may stand.
-use Rattle.std.proofs.Common.{◌≡◌, ◌∙◌, ℕ, zero, suc, ◌+◌, ◌<◌, ◌≤◌, Bool, true, false, List, [], ◌∷◌, ◌++◌, length, refl, sym, ap, subst, arith, append-nil, append_assoc, Option, Some, None, Ok, Err, if◌then◌else◌, IsTrue, ◌==◌, eqb-true}
+use Rattle.std.proofs.Common.{◌≡◌, ◌∙◌, ℕ, zero, suc, ◌<◌, ◌≤◌, true, false, List, [], ◌∷◌, ◌++◌, refl, sym, ap, subst, arith, append-nil, Some, None, Ok, Err, if◌then◌else◌, IsTrue, ◌==◌}
 use Rattle.pg_base.specs.declared.token.Wanted.TheVariants as wanted
 use Rattle.pg_base.specs.Tokens.{Word}
 use Rattle.pg_script.specs.declared.fault.ScriptFault.TheVariants.{Expected, TooMany}
@@ -8,13 +8,13 @@ use Rattle.pg_script.specs.declared.mark.Mark.TheVariants.{OpenBracket, Colon, A
 use Rattle.pg_script.specs.declared.span.Until.TheVariants as until
 use Rattle.pg_script.specs.declared.head.Head.{Head}
 use Rattle.pg_script.specs.declared.head.Head.TheVariants as head
-use Rattle.pg_script.specs.Data.{Part, Expression, Rule, Shape, plain, exact, intro, apply, rewrite, split, uses, symm, have, revert, by_cases, unknown, Step}
+use Rattle.pg_script.specs.Data.{Part, Rule, Shape, plain, exact, intro, apply, rewrite, split, uses, symm, have, revert, by_cases, unknown, Step}
 use Rattle.pg_script.specs.Marks.{mark, is_name}
 use Rattle.pg_script.specs.Lines.{Read, and_then, unless_fault, stops, part_at, expr_at, ended, name_at, names_fault, steps_fault, place_at, deep_fault, rules_at, bracketed_rules, terms_at, exact_at, apply_at, rewrite_at, intro_at, names_after, split_at, have_after, have_formula, have_of, cases_of, shape_at, head_of}
 use Rattle.pg_script.specs.Blocks.{steps_of, move_at}
-use Rattle.pg_script.specs.Forms.{IsPiece, piece, AreNames, IsForm, a_plain, an_exact, an_intro, an_apply, a_rewrite, a_split, a_split_with, a_use, a_symm, a_have, a_have_by, a_have_of, a_revert, a_by_cases, an_unknown, IsMove}
+use Rattle.pg_script.specs.Forms.{IsPiece, piece, IsForm, a_plain, an_exact, an_intro, an_apply, a_rewrite, a_split, a_split_with, a_use, a_symm, a_have, a_have_by, a_have_of, a_revert, a_by_cases, an_unknown, IsMove}
 use Rattle.pg_script.proofs.Found.{clash, and_then_ok, inj}
-use Rattle.pg_script.proofs.Pieces.{differ, Ends, part_read, PartFound, part_found}
+use Rattle.pg_script.proofs.Pieces.{differ, Ends, part_read, part_found}
 use Rattle.pg_script.proofs.Phrases.{expr_read, expr_found, ended_ok, exact_read, exact_found}
 use Rattle.pg_script.proofs.Shallow.{shallow_read, shallow_found}
 use Rattle.pg_script.proofs.Moves.{unless-ok, names-read, names-found, steps-read, steps-found, name-read, name-found, place-read, place-begins, place-found, RulesIn, rules-read, rules-some, rules-found, assign-stops, terms-read, terms-some, terms-found}

@@ -1,7 +1,6 @@
 -- What stands inside an item, told without a reader: parts of moves, the forms of moves, and hints.
 use Rattle.std.specs.Prelude.{◌≡◌, ◌↔◌, ℕ, suc, ◌+◌, ◌≤◌, ◌<◌, Bool, true, false, List, [], ◌∷◌, ◌++◌, length, Option, Some, None, Ok, IsTrue, IsFalse, if◌then◌else◌, codes}
 use Rattle.pg_base.specs.Tokens.{Word}
-use Rattle.pg_script.specs.declared.mark.Mark.{Mark}
 use Rattle.pg_script.specs.declared.mark.Mark.TheVariants.{Open, Close, OpenBracket, CloseBracket, Comma, Colon, Assign, LeftArrow, Free, With, At, Number, Text}
 use Rattle.pg_script.specs.declared.span.Until.{Until}
 use Rattle.pg_script.specs.declared.span.Until.TheVariants as until
