@@ -7,8 +7,15 @@ pub mod Found
 pub mod Items
 pub mod Laid
 pub mod Lists
+pub mod Moves
+pub mod Notes
+pub mod Phrases
+pub mod Pieces
 pub mod Places
 pub mod Promises
 pub mod Readers
+pub mod Rows
+pub mod Shallow
+pub mod Shapes
 pub mod Starts
 pub mod Turns

@@ -1,4 +1,5 @@
--- How a script falls into blocks and items by columns, told without a reader.
+-- How a script falls into blocks and items by columns, told without a reader. What stands inside a move or a hint is
+-- `move_at` or `hint_at` here: Forms.antt tells it without a reader, and the laws of src/laws.rt that the two are one.
 use Rattle.std.specs.Prelude.{◌≡◌, ℕ, suc, ◌-◌, Bool, ◌&&◌, ◌||◌, List, [], ◌∷◌, ◌++◌, Result, Ok, Err, nat_lt, IsTrue, IsFalse, ◌==◌}
 use Rattle.pg_base.specs.Tokens.{Word}
 use Rattle.pg_script.specs.declared.fault.ScriptFault.{ScriptFault}

@@ -2,6 +2,7 @@ pub mod BlockView
 pub mod Blocks
 pub mod Data
 pub mod Faults
+pub mod Forms
 pub mod Grammar
 pub mod Joined
 pub mod Lines

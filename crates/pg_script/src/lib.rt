@@ -8,6 +8,7 @@ mod form;
 mod head;
 mod hint;
 mod item;
+mod laws;
 mod mark;
 mod script;
 mod span;
@@ -16,4 +17,5 @@ mod tests;
 
 pub use fault::ScriptFault;
 pub use item::{Expr, Form, HintItem, Item, MoveItem, Piece, RwRule, Script};
+pub use laws::{expression_law, hint_law, move_law};
 pub use script::{read_items, read_script};
