@@ -1,5 +1,5 @@
 //! Courses: which levels are open, and what a player has in a level.
-ghost use Rattle.std.specs.Prelude.{◌≡◌, ◌<◌, ◌++◌, ℕ, length, map, replicate, IfOk, OnOk, IsTrue, slice_index, nat_lt, flat_map};
+ghost use Rattle.std.specs.Prelude.{◌≡◌, ◌<◌, ◌^◌, ◌++◌, ℕ, length, map, replicate, IfOk, OnOk, IsTrue, slice_index, nat_lt, flat_map};
 ghost use Rattle.std.specs.List.{list_all};
 ghost use Rattle.pg_worlds.specs.Worlds.{worlds_of, IsGraph};
 ghost use Rattle.pg_worlds.specs.declared.course.LevelItems.{LevelItems};
@@ -54,8 +54,9 @@ fn is_graph(levels: &[u16], needs: &[Vec<u16>]) -> bool
     all_rows_below(needs, needs.len())
 }
 
-// The graph of so many worlds, with these levels.
+// The graph of worlds with so many levels each.
 fn graph(alloc: Global, levels: &[u16]) -> Result<Graph>
+    requires { length levels.now < 2 ^ 16 }
     ensures { IfOk result (λ g. g.levels ≡ levels.now) }
 {
     let levels = levels.to_vec(alloc)?;

@@ -21,12 +21,13 @@ pub struct Told {
 }
 
 /// The parts that are done where none is named, each with its size.
-const SMALL: [(&str, u64); 27] = [
+const SMALL: [(&str, u64); 28] = [
     ("course:open", 4),
     ("course:all-open", 4),
     ("course:available", 4),
     ("course:least", 4),
     ("script:expression", 512),
+    ("script:arguments", 512),
     ("script:moves", 512),
     ("script:blocks", 512),
     ("script:parentheses", 512),

@@ -13,7 +13,7 @@ use std::alloc::{AllocError, Global};
 const MOST_HEIGHT: u64 = 16;
 
 // How many nodes an equation has at most.
-const MOST_NODES: u64 = 1001;
+const MOST_NODES: u64 = 101;
 
 // The numeral of so many nodes, and 0 for none.
 fn numeral(alloc: Global, nodes: u64) -> Result<Term, AllocError> {
@@ -83,8 +83,9 @@ fn check_times(alloc: Global, proof: &Proof, goal: &Formula, times: u64) -> Resu
 }
 
 // How many nodes a full binary tree of this height has.
-fn node_count(height: u64) -> u64
-    requires { height ≤ MOST_HEIGHT }
+fn node_count(height: u32) -> u64
+    requires { height < 64 }
+    ensures { result ≡ 2 ^ height - 1 }
 {
     (1 << height) - 1
 }
@@ -120,6 +121,6 @@ pub fn done(alloc: Global, kind: &str, height: u64, times: u64) -> Result<Told> 
     }
     Ok(Told {
         what: "nodes",
-        count: node_count(height),
+        count: node_count(height as u32),
     })
 }

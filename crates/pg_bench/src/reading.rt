@@ -1,11 +1,13 @@
 //! Scripts and formulas that are read, and formulas that are printed.
-ghost use Rattle.std.specs.Prelude.{◌≡◌, ◌<◌, ◌^◌, length, IfOk};
+ghost use Rattle.std.specs.Prelude.{◌≡◌, ◌<◌, ◌^◌, length, map, IfOk, OnOk};
+ghost use Rattle.pg_base.specs.Tokens.{word};
+ghost use Rattle.pg_base.specs.Spans.{AreTokensOf};
 
 use crate::Told;
 use crate::text::{filled, push_times, repeated};
 use anyhow::{Result, bail};
 use pg_arith::Signature;
-use pg_base::{LexFault, Token, tokens_of};
+use pg_base::{Token, tokens_of};
 use pg_script::{Script, ScriptFault, read_script};
 use pg_syntax::{Names, SyntaxFault, print_formula, read_formula};
 use pg_terms::{Formula, Name, Term};
@@ -155,34 +157,38 @@ fn formula_text(alloc: Global, kind: &str, size: usize) -> Result<String> {
 }
 
 // The variable x.
-fn variables(alloc: Global) -> Result<Names, AllocError> {
+fn variables(alloc: Global) -> Result<Names, AllocError>
+    ensures { IfOk result (λ names. length names.vars.items ≡ 1) }
+{
     let vars = vec![in alloc; Some(Name::new(alloc, "x")?)]?;
     Ok(Names { vars })
 }
 
-// Declares a function of two parameters.
-fn declare(sig: &mut Signature, alloc: Global, names: [&str; 3]) -> Result<()> {
-    let params = vec![in alloc; Name::new(alloc, "a")?, Name::new(alloc, "d")?]?;
-    if sig.function_count() > 64
-        || names[0].is_empty()
-        || names[1].is_empty()
-        || names[2].is_empty()
-    {
-        bail!("the function has no room or no name");
+fn name(alloc: Global, text: &str) -> Result<Name> {
+    if text.is_empty() {
+        bail!("a name is empty");
     }
-    let [name, zero_name, succ_name] = names;
-    let name = Name::new(alloc, name)?;
-    let zero_name = Name::new(alloc, zero_name)?;
-    let succ_name = Name::new(alloc, succ_name)?;
+    Ok(Name::new(alloc, text)?)
+}
+
+// Declares a function of two parameters, by its name and those of its equations.
+fn declare(sig: &mut Signature, alloc: Global, names: [&str; 3]) -> Result<()> {
+    if sig.function_count() > 64 {
+        bail!("there are too many functions");
+    }
+    let params = vec![in alloc; Name::new(alloc, "a")?, Name::new(alloc, "d")?]?;
+    let own = name(alloc, names[0])?;
+    let at_zero = name(alloc, names[1])?;
+    let at_succ = name(alloc, names[2])?;
     sig.declare_function(
         alloc,
-        name,
+        own,
         2,
         params,
         Term::Zero,
         Term::Zero,
-        zero_name,
-        succ_name,
+        at_zero,
+        at_succ,
     )?;
     Ok(())
 }
@@ -200,8 +206,11 @@ fn signature(alloc: Global) -> Result<Signature> {
     Ok(sig)
 }
 
-// The tokens of a text.
-fn tokens(alloc: Global, text: &str) -> Result<Vec<Token<'_>>> {
+// The tokens of a text, which is not too long.
+fn tokens(alloc: Global, text: &str) -> Result<Vec<Token<'_>>>
+    ensures short { OnOk result (length text.now < 2 ^ 32) }
+    ensures spans { IfOk result (λ tokens. AreTokensOf text.now (map word tokens.items)) }
+{
     if text.len() > 1_000_000 {
         bail!("the text is too long");
     }
@@ -291,9 +300,6 @@ pub fn formula_done(alloc: Global, work: &str, kind: &str, size: u64, times: u64
     let text = formula_text(alloc, kind, size as usize)?;
     let names = variables(alloc)?;
     let sig = signature(alloc)?;
-    if names.vars.len() != 1 {
-        bail!("there is one variable");
-    }
     match work {
         "tokens" => tokens_times(alloc, text.as_str(), times),
         "read" => formula_told(read_times(alloc, text.as_str(), &names, &sig, times)?),
