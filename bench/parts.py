@@ -2,8 +2,9 @@
 """Times the parts of the project whose speed matters, by the program of `crates/pg_bench`, and prints each time.
 
 The program does a part N times in one run and 2N times in another. The difference, by N, is the time of one: the
-start of the program and the building of its input fall out. Of several runs the least counts. A ratio is that to the
-size on the line above, the half of it: near 2 says that the time grows in line with the size. The stack is the least
+start of the program and the building of its input fall out. The time of a run is the processor time that it used, and
+of several runs the least counts. A ratio is that to the size on the line above, the half of it: near 2 says that the
+time grows in line with the size. The stack is the least
 limit, as `ulimit -s` sets it, in steps of 16 KiB, under which the program ends well.
 
 Build the program first (`cd crates/pg_bench && rt run`), then run `bench/parts.py` at the top of a checkout, or
@@ -13,7 +14,6 @@ import os
 import resource
 import subprocess
 import sys
-import time
 
 TOP = os.path.dirname(os.path.dirname(os.path.abspath(__file__)))
 PROGRAM = os.path.join(TOP, "crates/pg_bench/out/pg_bench")
@@ -46,17 +46,23 @@ PARTS = (
 )
 
 
+def used():
+    """The processor time of the runs so far, in seconds."""
+    usage = resource.getrusage(resource.RUSAGE_CHILDREN)
+    return usage.ru_utime + usage.ru_stime
+
+
 def ran(part, size, times, stack=None):
-    """The time of a run in seconds, and how it ended. The stack's limit is in KiB."""
+    """The processor time of a run in seconds, and how it ended. The stack's limit is in KiB."""
 
     def limit():
         if stack is not None:
             resource.setrlimit(resource.RLIMIT_STACK, (stack * 1024, stack * 1024))
 
     words = [PROGRAM, part, str(size), str(times)]
-    begun = time.perf_counter()
+    begun = used()
     done = subprocess.run(words, capture_output=True, preexec_fn=limit)
-    return time.perf_counter() - begun, done
+    return used() - begun, done
 
 
 def least(part, size, times):
