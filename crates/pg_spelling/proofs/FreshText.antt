@@ -1,5 +1,5 @@
 -- A name made fresh is the text of a name token again.
-use Rattle.std.proofs.Common.{◌≡◌, ℕ, suc, ◌+◌, ◌%◌, ◌^◌, ◌<◌, ◌≤◌, ◌==◌, Bool, true, false, cond, ◌&&◌, ◌||◌, nat_lt, List, [], ◌∷◌, ◌++◌, length, None, sym, ◌∙◌, ap, refl, subst, arith, append-nil, length-append, decimal}
+use Rattle.std.proofs.Common.{◌≡◌, ℕ, suc, ◌+◌, ◌/◌, ◌%◌, ◌^◌, ◌<◌, ◌≤◌, ◌==◌, Bool, true, false, cond, ◌&&◌, ◌||◌, nat_lt, List, [], ◌∷◌, ◌++◌, length, None, sym, ◌∙◌, ap, refl, subst, arith, append-nil, length-append, decimal}
 use Rattle.std.proofs.lemmas.Bool.{and_parts, and_from, or_parts, false≢true}
 use Rattle.std.proofs.lemmas.Bool.Decides.{nat_tests}
 use Rattle.std.proofs.lemmas.Slice.Eq.{bytes_eq-Decides}
@@ -72,14 +72,30 @@ NoDigits (b ∷ bs) = (is_ascii_digit b ≡ false) × NoDigits bs
 high-no_digit : (b : ℕ) → 128 ≤ b → is_ascii_digit b ≡ false
 high-no_digit b le = grind (arith, nat_tests, le)
 
-no_digits : (c : ℕ) → is_ascii_digit c ≡ false → NoDigits (encode_utf8 c)
+-- what holds of each length of a character's bytes
+of-bytes : (P : List ℕ → Type 0) (a b d : Bool) (w x y z : List ℕ) → P w → P x → P y → P z → P (cond a w (cond b x (cond d y z)))
+of-bytes P true b d w x y z h i j k = h
+of-bytes P false true d w x y z h i j k = i
+of-bytes P false false true w x y z h i j k = j
+of-bytes P false false false w x y z h i j k = k
+
+encode-by : (P : List ℕ → Type 0) (c : ℕ) → P (c ∷ []) → ((a b : ℕ) → 128 ≤ a → 128 ≤ b → P (a ∷ b ∷ [])) → ((a b d : ℕ) → 128 ≤ a → 128 ≤ b → 128 ≤ d → P (a ∷ b ∷ d ∷ []))
+    → ((a b d e : ℕ) → 128 ≤ a → 128 ≤ b → 128 ≤ d → 128 ≤ e → P (a ∷ b ∷ d ∷ e ∷ [])) → P (encode_utf8 c)
 unfolding lib.Utf8.encode
+encode-by P c one two three four =
+    let a : ℕ = 192 + c / 64 in
+    let b : ℕ = 224 + c / 4096 in
+    let d : ℕ = 240 + c / 262144 in
+    let e : ℕ = 128 + c / 4096 % 64 in
+    let f : ℕ = 128 + c / 64 % 64 in
+    let g : ℕ = 128 + c % 64 in
+    of-bytes P (nat_lt c 128) (nat_lt c 2048) (nat_lt c 65536) (c ∷ []) (a ∷ g ∷ []) (b ∷ f ∷ g ∷ []) (d ∷ e ∷ f ∷ g ∷ []) one
+    (two a g (omega arith) (omega arith)) (three b f g (omega arith) (omega arith) (omega arith)) (four d e f g (omega arith) (omega arith) (omega arith) (omega arith))
+
+no_digits : (c : ℕ) → is_ascii_digit c ≡ false → NoDigits (encode_utf8 c)
 no_digits c off =
-    by_bool (λ b. NoDigits (cond b (c ∷ []) (cond (nat_lt c 2048) _ (cond (nat_lt c 65536) _ _)))) (nat_lt c 128) (λ _. (off, tt))
-    (λ _. by_bool (λ b. NoDigits (cond b _ (cond (nat_lt c 65536) _ _))) (nat_lt c 2048) (λ _. (high-no_digit _ (omega arith), (high-no_digit _ (omega arith), tt)))
-    (λ _. by_bool (λ b. NoDigits (cond b _ _)) (nat_lt c 65536)
-    (λ _. (high-no_digit _ (omega arith), (high-no_digit _ (omega arith), (high-no_digit _ (omega arith), tt))))
-    (λ _. (high-no_digit _ (omega arith), (high-no_digit _ (omega arith), (high-no_digit _ (omega arith), (high-no_digit _ (omega arith), tt)))))))
+    encode-by NoDigits c (off, tt) (λ a b h i. (high-no_digit a h, (high-no_digit b i, tt))) (λ a b d h i j. (high-no_digit a h, (high-no_digit b i, (high-no_digit d j, tt))))
+    (λ a b d e h i j k. (high-no_digit a h, (high-no_digit b i, (high-no_digit d j, (high-no_digit e k, tt)))))
 
 kept-other : (b : ℕ) (bs : List ℕ) → is_ascii_digit b ≡ false → kept b bs ≡ b ∷ bs
 kept-other b [] off = rw off refl
@@ -109,11 +125,10 @@ stem-some (b ∷ bs) xs h =
     ap (kept b) (stem-some bs xs h) ∙ kept-some b s.first (bs ++ stem xs) s.rest s.is
 
 encode-some : (c : ℕ) (cs : List ℕ) → Some (encode_utf8_all (c ∷ cs))
-unfolding lib.Utf8.encode
 encode-some c cs =
-    by_bool (λ b. Some (cond b (c ∷ []) (cond (nat_lt c 2048) _ (cond (nat_lt c 65536) _ _)) ++ encode_utf8_all cs)) (nat_lt c 128) (λ _. record { first = _; rest = _; is = refl })
-    (λ _. by_bool (λ b. Some (cond b _ (cond (nat_lt c 65536) _ _) ++ encode_utf8_all cs)) (nat_lt c 2048) (λ _. record { first = _; rest = _; is = refl })
-    (λ _. by_bool (λ b. Some (cond b _ _ ++ encode_utf8_all cs)) (nat_lt c 65536) (λ _. record { first = _; rest = _; is = refl }) (λ _. record { first = _; rest = _; is = refl })))
+    let more : List ℕ = encode_utf8_all cs in
+    encode-by (λ x. Some (x ++ more)) c (record { first = c; rest = more; is = refl }) (λ a b h i. record { first = a; rest = b ∷ more; is = refl })
+    (λ a b d h i j. record { first = a; rest = b ∷ d ∷ more; is = refl }) (λ a b d e h i j k. record { first = a; rest = b ∷ d ∷ e ∷ more; is = refl })
 
 -- the characters of the stem, and the digits behind it
 record Cut (cs : List ℕ) : Type 0 where

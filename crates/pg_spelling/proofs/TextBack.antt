@@ -136,17 +136,17 @@ letters (App f s) h rest =
     ap chars (append_assoc (written f) (codes " " ++ written s) rest) ∙ letters f h.0 (codes " " ++ (written s ++ rest))
     ∙ ap (lettered f) (blank-chars (written s ++ rest) ∙ ap (λ x. 32 ∷ x) (letters s h.1 rest))
 letters (Neg at s) h rest = not-chars (written s ++ rest) ∙ ap (λ x. 0xac ∷ 32 ∷ x) (letters s h rest)
-letters (Quant at q b s) h rest = subst (λ x. chars (written (Quant at q x s) ++ rest) ≡ lettered (Quant at q x s) (chars rest)) (sym h.0.1.1) (one h.0.0 h.0.1.0)
+letters (Quant at q b s) h rest = subst (λ x. chars (written (Quant at q x s) ++ rest) ≡ lettered (Quant at q x s) (chars rest)) (sym h.0.1.1) (one h.0.0 h.0.1.0 (letters s h.1 rest))
   where
-    one : (x : List ℕ) → IsFreeName x → chars (written (Quant at q (one_name x) s) ++ rest) ≡ lettered (Quant at q (one_name x) s) (chars rest)
-    one x free =
+    one : (x : List ℕ) → IsFreeName x → chars (written s ++ rest) ≡ lettered s (chars rest) → chars (written (Quant at q (one_name x) s) ++ rest) ≡ lettered (Quant at q (one_name x) s) (chars rest)
+    one x token body =
         ap chars (append_assoc (quantifier_text q) (32 ∷ ((x ++ []) ++ (44 ∷ 32 ∷ written s))) rest)
         ∙ quantifier-chars q (32 ∷ (((x ++ []) ++ (44 ∷ 32 ∷ written s)) ++ rest))
         ∙ ap (λ y. quantifier_letter q ∷ y) (blank-chars (((x ++ []) ++ (44 ∷ 32 ∷ written s)) ++ rest))
         ∙ ap (λ y. quantifier_letter q ∷ 32 ∷ chars ((y ++ (44 ∷ 32 ∷ written s)) ++ rest)) (append-nil x)
         ∙ ap (λ y. quantifier_letter q ∷ 32 ∷ chars y) (append_assoc x (44 ∷ 32 ∷ written s) rest)
-        ∙ ap (λ y. quantifier_letter q ∷ 32 ∷ y) (chars-append x (44 ∷ 32 ∷ (written s ++ rest)) free.0.0)
-        ∙ ap (λ y. quantifier_letter q ∷ 32 ∷ (chars x ++ y)) (comma-chars (written s ++ rest) ∙ ap (λ y. 44 ∷ 32 ∷ y) (letters s h.1 rest))
+        ∙ ap (λ y. quantifier_letter q ∷ 32 ∷ y) (chars-append x (44 ∷ 32 ∷ (written s ++ rest)) token.0.0)
+        ∙ ap (λ y. quantifier_letter q ∷ 32 ∷ (chars x ++ y)) (comma-chars (written s ++ rest) ∙ ap (λ y. 44 ∷ 32 ∷ y) body)
 letters (Binary at op l r) h rest =
     ap chars (append_assoc (written l) (32 ∷ (op_text op ++ (32 ∷ written r))) rest)
     ∙ letters l h.0 (32 ∷ ((op_text op ++ (32 ∷ written r)) ++ rest))
@@ -226,10 +226,11 @@ goes-shape (Neg old s) h p at rest e stop =
     two : at + 2 + 1 ≡ at + 3
     two = omega arith
 goes-shape (Quant old q b s) h p at rest e stop =
-    subst (λ x. Goes p (lettered (Quant old q x s) rest) (at + length (written (Quant old q x s))) (spelled (placed at (Quant old q x s))) rest) (sym h.0.1.1) (one h.0.0 h.0.1.0)
+    subst (λ x. Goes p (lettered (Quant old q x s) rest) (at + length (written (Quant old q x s))) (spelled (placed at (Quant old q x s))) rest) (sym h.0.1.1)
+    (one h.0.0 h.0.1.0 (λ r k i. goes-shape s h.1 r k rest i stop))
   where
-    one : (x : List ℕ) → IsFreeName x → Goes p (lettered (Quant old q (one_name x) s) rest) (at + length (written (Quant old q (one_name x) s))) (spelled (placed at (Quant old q (one_name x) s))) rest
-    one x free =
+    one : (x : List ℕ) → IsFreeName x → ((r : Position) (k : ℕ) → r.place ≡ k → Goes r (lettered s rest) (k + length (written s)) (spelled (placed k s)) rest) → Goes p (lettered (Quant old q (one_name x) s) rest) (at + length (written (Quant old q (one_name x) s))) (spelled (placed at (Quant old q (one_name x) s))) rest
+    one x token inside =
         let names : ℕ = at + length (quantifier_text q) + 1 in
         let nil : length (x ++ []) ≡ length x = ap length (append-nil x) in
         let body : names + length x + 1 + 1 ≡ names + length (x ++ []) + 2 = omega (arith, nil) in
@@ -238,10 +239,10 @@ goes-shape (Quant old q b s) h p at rest e stop =
         goes-to
         (goes-then (goes-quantifier q p at (chars x ++ 44 ∷ 32 ∷ lettered s rest) e)
         (λ r i. goes-then (goes-blank r (at + length (quantifier_text q)) (chars x ++ 44 ∷ 32 ∷ lettered s rest) i)
-        (λ r i. goes-then (goes-free r names x (44 ∷ 32 ∷ lettered s rest) i free refl)
+        (λ r i. goes-then (goes-free r names x (44 ∷ 32 ∷ lettered s rest) i token refl)
         (λ r i. goes-then (goes-sign r (names + length x) sign.Comma 44 (32 ∷ lettered s rest) i refl)
         (λ r i. goes-then (goes-blank r (names + length x + 1) (lettered s rest) i)
-        (λ r i. goes-shape s h.1 r (names + length (x ++ []) + 2) rest (i ∙ body) stop))))))
+        (λ r i. inside r (names + length (x ++ []) + 2) (i ∙ body)))))))
         whole
 goes-shape (Binary old op l r) h p at rest e stop =
     let sign_at : ℕ = at + length (written l) + 1 in
@@ -429,10 +430,10 @@ mutual
       (term-texts s r n t p.0 q.0, terms-texts s r n ts p.1 q.1)
 
 below : (s : Scope) (y : Name) → Ready s → IsFreeName y → Ready (under y s)
-below s y r free = record { binders = λ i lt. at i lt; writable = r.writable; allowed = r.allowed }
+below s y r token = record { binders = λ i lt. at i lt; writable = r.writable; allowed = r.allowed }
   where
     at : (i : ℕ) → i < length (y ∷ s.binders) → IsFreeName (name_at (y ∷ s.binders) i)
-    at zero lt = free
+    at zero lt = token
     at (suc i) lt = r.binders i (omega (arith, lt))
 
 deeper : (s : Scope) (n : ℕ) (a : Fm) → fits (signature_of s.declared) n (length s.binders + 1) a ≡ true → fits (signature_of s.declared) n (suc (length s.binders)) a ≡ true
@@ -461,12 +462,12 @@ formula-texts s r n (imp c d) h l room b =
     (formula-texts s r n c p.0 q.0 room.0 b.0, formula-texts s r n d p.1 q.1 room.1 b.1)
 formula-texts s r n (all x a) h l room b =
     let y : Name = fresh (taken s) x in
-    let free : IsFreeName y = fresh-name-law (taken s) x room.0 b.0 b.1 in
-    (free, formula-texts (under y s) (below s y r free) n a (deeper s n a h) l room.1 b.2)
+    let token : IsFreeName y = fresh-name-law (taken s) x room.0 b.0 b.1 in
+    (token, formula-texts (under y s) (below s y r token) n a (deeper s n a h) l room.1 b.2)
 formula-texts s r n (ex x a) h l room b =
     let y : Name = fresh (taken s) x in
-    let free : IsFreeName y = fresh-name-law (taken s) x room.0 b.0 b.1 in
-    (free, formula-texts (under y s) (below s y r free) n a (deeper s n a h) l room.1 b.2)
+    let token : IsFreeName y = fresh-name-law (taken s) x room.0 b.0 b.1 in
+    (token, formula-texts (under y s) (below s y r token) n a (deeper s n a h) l room.1 b.2)
 
 -- ---- the laws
 
