@@ -5,3 +5,4 @@ pub mod Unplaced
 pub mod Lexed
 pub mod FreshText
 pub mod TextBack
+mod Examples
