@@ -36,7 +36,7 @@ unfolding lib.Utf8.encode
 x-token = token-of (codes "x") refl ((refl, refl, refl), refl, omega arith, refl)
 
 -- α, as two bytes
-abbrev alpha : Name
+abbrev pub alpha : Name
 alpha = 206 ∷ 177 ∷ []
 
 alpha-token : IsNameToken alpha
@@ -49,10 +49,10 @@ one-token = ((codes "1", (refl, refl)), subst (λ x. IsToken kind.Number x []) (
 
 -- ---- ∀ x, x + 0 = x
 
-abbrev sums : Declarations
+abbrev pub sums : Declarations
 sums = record { functions = by_recursion (codes "+") 2 (codes "n" ∷ codes "m" ∷ []) (free 0) (succ (free 2)) (codes "add_zero") (codes "add_succ") ∷ []; predicates = [] }
 
-abbrev add_zero : Fm
+abbrev pub add_zero : Fm
 add_zero = all (codes "x") (eq (app 0 (arg (bound 0) (arg nought none))) (bound 0))
 
 pub add_zero-writes : CanWriteFormula [] sums add_zero
@@ -73,7 +73,7 @@ add_zero-text = text-law [] sums add_zero add_zero-writes
 
 -- ---- ∃ α1, α1 = α, where α is a variable
 
-abbrev equals_alpha : Fm
+abbrev pub equals_alpha : Fm
 equals_alpha = ex alpha (eq (bound 0) (free 0))
 
 pub alpha-writes : CanWriteFormula (Some alpha ∷ []) sums equals_alpha
@@ -95,13 +95,13 @@ alpha-text = text-law (Some alpha ∷ []) sums equals_alpha alpha-writes
 
 -- ---- 1 ≤ x, where x is a variable
 
-abbrev orders : Declarations
+abbrev pub orders : Declarations
 orders = record {
   functions = by_term (codes "1") (succ nought) (codes "one_eq") ∷ [];
   predicates = record { name = 226 ∷ 137 ∷ 164 ∷ []; arity = 2; body = eq (free 0) (free 1) } ∷ [];
 }
 
-abbrev one_at_most : Fm
+abbrev pub one_at_most : Fm
 one_at_most = pred 0 (arg (app 0 none) (arg (free 0) none))
 
 pub one-writes : CanWriteFormula (Some (codes "x") ∷ []) orders one_at_most

@@ -5,4 +5,4 @@ pub mod Unplaced
 pub mod Lexed
 pub mod FreshText
 pub mod TextBack
-mod Examples
+pub mod Examples
