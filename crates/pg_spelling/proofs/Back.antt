@@ -513,7 +513,7 @@ equal-formula s l r a b m k =
     }
 
 -- only False has its tree
-arrow-other : (s : Scope) (a b : Fm) → (b ≡ falsum → ⊥) → shape_of (named_formula s (imp a b)) ≡ joined Implies (shape_of (named_formula s a)) (shape_of (named_formula s b))
+pub arrow-other : (s : Scope) (a b : Fm) → (b ≡ falsum → ⊥) → shape_of (named_formula s (imp a b)) ≡ joined Implies (shape_of (named_formula s a)) (shape_of (named_formula s b))
 arrow-other s a falsum h = absurd (h refl)
 arrow-other s a (eq t u) h = refl
 arrow-other s a (pred p none) h = go (begins_with_digit (name_at (predicate_names s.declared) p))

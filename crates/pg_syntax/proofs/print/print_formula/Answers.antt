@@ -1,3 +1,4 @@
+use Rattle.std.proofs.Common.{rules}
 use Rattle.pg_terms.specs.View.{formula}
 use Rattle.pg_arith.specs.View.{declarations}
 use Rattle.pg_spelling.proofs.Back.{back-law}
@@ -8,4 +9,4 @@ pub returns-clause-reads : goal.returns-clause-reads
 returns-clause-reads c = back-law c.args.names.now.vars.items (declarations c.args.sig.now) (formula c.args.formula.now)
 
 pub returns-clause-again : goal.returns-clause-again
-returns-clause-again c = formula-again c.args.names.now.vars.items (declarations c.args.sig.now) (formula c.args.formula.now) _ ?
+returns-clause-again c = formula-again c.args.names.now.vars.items (declarations c.args.sig.now) (formula c.args.formula.now) _ (search rules)
