@@ -1,15 +1,14 @@
 -- What is printed is read again.
-use Rattle.std.proofs.Common.{◌≡◌, ℕ, ◌≤◌, List, length, map, sym, ◌∙◌, ap, refl, subst}
-use Rattle.std.specs.Prelude.{Option, Some, None}
+use Rattle.std.proofs.Common.{◌≡◌, ℕ, ◌≤◌, List, length, sym, ◌∙◌, ap, subst}
+use Rattle.std.specs.Prelude.{Option, None}
 use Rattle.std.proofs.lemmas.List.{length-map}
 use Rattle.pg_base.specs.Tokens.{lexed}
 use Rattle.pg_shape.specs.Symbols.{symbol}
 use Rattle.pg_shape.specs.Answers.{limits, Shaped, answer, shape_answer}
 use Rattle.pg_logic.specs.Tree.{Tm, Fm}
 use Rattle.pg_logic.specs.Declarations.{Name, Declarations}
-use Rattle.pg_grammar.specs.Shapes.{Sym, Shape, IsShape, spelled}
+use Rattle.pg_grammar.specs.Shapes.{Shape, IsShape, spelled}
 use Rattle.pg_grammar.specs.Nesting.{depths, AreWithin}
-use Rattle.pg_grammar.specs.Faults.{Read as ReadShape}
 use Rattle.pg_grammar.specs.Machine.{read}
 use Rattle.pg_grammar.specs.Printing.{shape_of}
 use Rattle.pg_grammar.proofs.Unique.{spelled-law}
@@ -24,8 +23,8 @@ use Rattle.pg_spelling.specs.TextBack.{IsTextOf}
 use Rattle.pg_spelling.proofs.Back.{back-law, term-back-law}
 use Rattle.pg_spelling.proofs.Unplaced.{place-law}
 use Rattle.pg_spelling.proofs.TextBack.{text-law, term-text-law}
-use Rattle.pg_syntax.specs.Answers.{Answer, Read, faultless, meant, term_answer, formula_answer}
-use Rattle.pg_syntax.specs.ReadBack.{IsWithinLimits, TermReadsAgain, FormulaReadsAgain, TermComesBack, FormulaComesBack}
+use Rattle.pg_syntax.specs.Answers.{Read, faultless, meant}
+use Rattle.pg_syntax.specs.ReadBack.{IsWithinLimits, TermComesBack, FormulaComesBack}
 
 -- the printed shape is one, wherever its tokens stand
 like-placed : (s : Shape) → AreAlike s (placed 0 s)

@@ -1,11 +1,9 @@
 -- What reading back asks can be met: ∀ x, x + 0 = x is read again from its text.
-use Rattle.std.proofs.Common.{◌≡◌, ℕ, ◌≤◌, List, [], length, map, codes, sym, ◌∙◌, ap, refl, subst, arith}
+use Rattle.std.proofs.Common.{◌≡◌, ℕ, List, [], length, codes, sym, ◌∙◌, ap, refl, arith}
 use Rattle.std.specs.Str.{encode_utf8_all}
 use Rattle.std.proofs.lemmas.List.{length-map}
 use Rattle.pg_base.specs.Tokens.{lexed}
 use Rattle.pg_shape.specs.Symbols.{symbol}
-use Rattle.pg_logic.specs.Tree.{Fm}
-use Rattle.pg_grammar.specs.Shapes.{Shape}
 use Rattle.pg_grammar.specs.Printing.{shape_of}
 use Rattle.pg_meaning.specs.Scope.{outermost}
 use Rattle.pg_spelling.specs.Named.{named_formula}

@@ -6,7 +6,7 @@ use Rattle.std.proofs.lemmas.Bool.Decides.{nat_tests}
 use Rattle.pg_logic.specs.Tree.{Tm, Tms, none, arg, Fm, falsum, eq, pred, and, or, imp, all, ex}
 use Rattle.pg_logic.specs.Declarations.{Name}
 use Rattle.pg_grammar.specs.Shapes.{Op, Implies, Or, And, Equal, NotEqual, LessEqual, Less, Plus, Times, Power, Shape, Named, Numeral, Falsum, Paren, Next, App, Neg, Quant, Binary, level, left_min, right_min, strength}
-use Rattle.pg_grammar.specs.Printing.{Join, Arrow, Either, Both, Equals, AtMost, Below, Sum, Product, Raised, sign_of, Tree, Ended, Call, Number, is_quant, operand, joined, negated, node_shape, applied, unplaced, shape_of, shapes_of}
+use Rattle.pg_grammar.specs.Printing.{Join, Arrow, Either, Both, Equals, AtMost, Below, Sum, Product, Raised, sign_of, Tree, Ended, Call, Number, is_quant, operand, joined, negated, applied, unplaced, shape_of, shapes_of}
 use Rattle.std.specs.Str.{bytes_eq}
 use Rattle.pg_terms.specs.declared.term.Term.{Term}
 use Rattle.pg_terms.specs.View.{term, args}
