@@ -1,5 +1,5 @@
-//! Definitions and laws of printing: fresh names, a tree with the names of its binders, and the text
-//! of a shape with its tokens. The crate's functions are its laws.
+//! Definitions and laws of printing: fresh names, a tree with the names of its binders, and the
+//! text of a shape with its tokens. The crate's functions are its laws.
 #![tactic(auto)]
 
 ghost use Rattle.pg_spelling.specs.Laws.{FreshLaw};
