@@ -138,31 +138,31 @@ own_arity (by_recursion name n params base step zero_name succ_name) = refl
 own_arity (by_term name body equation_name) = refl
 
 -- a function that takes so many arguments
-record Declared (d : Declarations) (f n : ℕ) : Type 0 where
-  one : NamedFunction
-  is : slice_get d.functions f ≡ Some one
-  arity : arity_of one ≡ n
+pub record Declared (d : Declarations) (f n : ℕ) : Type 0 where
+  pub one : NamedFunction
+  pub is : slice_get d.functions f ≡ Some one
+  pub arity : arity_of one ≡ n
 
-declared : (d : Declarations) (f n : ℕ) → takes (slice_get (signature_of d).functions f) n ≡ true → Declared d f n
+pub declared : (d : Declarations) (f n : ℕ) → takes (slice_get (signature_of d).functions f) n ≡ true → Declared d f n
 declared d f n h = go (slice_get d.functions f) refl (sym (ap (λ o. takes o n) (slice_get-map function_of d.functions f)) ∙ h)
   where
     go : (o : Option NamedFunction) → slice_get d.functions f ≡ o → takes (option_map function_of o) n ≡ true → Declared d f n
     go None e h = absurd (false≢true h)
     go (Some g) e h = record { one = g; is = e; arity = sym (own_arity g) ∙ eqb-true _ _ h }
 
-record Told (d : Declarations) (p n : ℕ) : Type 0 where
-  one : NamedPredicate
-  is : slice_get d.predicates p ≡ Some one
-  arity : one.arity ≡ n
+pub record Told (d : Declarations) (p n : ℕ) : Type 0 where
+  pub one : NamedPredicate
+  pub is : slice_get d.predicates p ≡ Some one
+  pub arity : one.arity ≡ n
 
-told : (d : Declarations) (p n : ℕ) → holds_of (slice_get (signature_of d).predicates p) n ≡ true → Told d p n
+pub told : (d : Declarations) (p n : ℕ) → holds_of (slice_get (signature_of d).predicates p) n ≡ true → Told d p n
 told d p n h = go (slice_get d.predicates p) refl (sym (ap (λ o. holds_of o n) (slice_get-map predicate_of d.predicates p)) ∙ h)
   where
     go : (o : Option NamedPredicate) → slice_get d.predicates p ≡ o → holds_of (option_map predicate_of o) n ≡ true → Told d p n
     go None e h = absurd (false≢true h)
     go (Some q) e h = record { one = q; is = e; arity = eqb-true _ _ h }
 
-name-get : (names : List Name) (i : ℕ) (x : Name) → slice_get names i ≡ Some x → name_at names i ≡ x
+pub name-get : (names : List Name) (i : ℕ) (x : Name) → slice_get names i ≡ Some x → name_at names i ≡ x
 name-get [] i x e = cc
 name-get (y ∷ ys) zero x e = cc
 name-get (y ∷ ys) (suc i) x e = name-get ys i x e
@@ -198,10 +198,10 @@ second : (xs ys : List Name) → AllDiffer (xs ++ ys) → AllDiffer (ys ++ [])
 second [] ys h = subst AllDiffer (sym (append-nil ys)) h
 second (x ∷ xs) ys h = second xs ys h.1
 
-named-function : (s : Scope) (f : ℕ) (one : NamedFunction) → slice_get s.declared.functions f ≡ Some one → slice_get (function_names s.declared) f ≡ Some (name_of one)
+pub named-function : (s : Scope) (f : ℕ) (one : NamedFunction) → slice_get s.declared.functions f ≡ Some one → slice_get (function_names s.declared) f ≡ Some (name_of one)
 named-function s f one is = slice_get-map name_of s.declared.functions f ∙ ap (option_map name_of) is
 
-named-predicate : (s : Scope) (p : ℕ) (one : NamedPredicate) → slice_get s.declared.predicates p ≡ Some one → slice_get (predicate_names s.declared) p ≡ Some one.name
+pub named-predicate : (s : Scope) (p : ℕ) (one : NamedPredicate) → slice_get s.declared.predicates p ≡ Some one → slice_get (predicate_names s.declared) p ≡ Some one.name
 named-predicate s p one is = slice_get-map (λ (q : NamedPredicate). q.name) s.declared.predicates p ∙ ap (option_map (λ (q : NamedPredicate). q.name)) is
 
 place-function : (s : Scope) → Ready s → (f : ℕ) (one : NamedFunction) → slice_get s.declared.functions f ≡ Some one → function_named s.declared (name_of one) ≡ Some f
@@ -447,7 +447,7 @@ mutual
 -- ---- room for fresh names
 
 -- at each binder the names that are taken are so few that a number of 64 bits makes one free
-abbrev HasRoom : Scope → Fm → Type 0
+abbrev pub HasRoom : Scope → Fm → Type 0
 HasRoom s (and a b) = HasRoom s a × HasRoom s b
 HasRoom s (or a b) = HasRoom s a × HasRoom s b
 HasRoom s (imp a b) = HasRoom s a × HasRoom s b
@@ -465,7 +465,7 @@ some-node (imp a b) = omega arith
 some-node (all x a) = omega arith
 some-node (ex x a) = omega arith
 
-has-room : (s : Scope) (a : Fm) → length (taken s) + nodes_of a < 2 ^ 64 → HasRoom s a
+pub has-room : (s : Scope) (a : Fm) → length (taken s) + nodes_of a < 2 ^ 64 → HasRoom s a
 has-room s falsum h = tt
 has-room s (eq a b) h = tt
 has-room s (pred p ts) h = tt
@@ -513,7 +513,7 @@ equal-formula s l r a b m k =
     }
 
 -- only False has its tree
-arrow-other : (s : Scope) (a b : Fm) → (b ≡ falsum → ⊥) → shape_of (named_formula s (imp a b)) ≡ joined Implies (shape_of (named_formula s a)) (shape_of (named_formula s b))
+pub arrow-other : (s : Scope) (a b : Fm) → (b ≡ falsum → ⊥) → shape_of (named_formula s (imp a b)) ≡ joined Implies (shape_of (named_formula s a)) (shape_of (named_formula s b))
 arrow-other s a falsum h = absurd (h refl)
 arrow-other s a (eq t u) h = refl
 arrow-other s a (pred p none) h = go (begins_with_digit (name_at (predicate_names s.declared) p))

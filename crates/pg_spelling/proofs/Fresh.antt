@@ -28,21 +28,21 @@ by_bool P false f g = g refl
 
 -- ---- no reserved word ends in a digit
 
-abbrev ends_in_digit : List ℕ → Bool
+abbrev pub ends_in_digit : List ℕ → Bool
 ends_in_digit [] = false
 ends_in_digit (c ∷ []) = is_ascii_digit c
 ends_in_digit (c ∷ d ∷ cs) = ends_in_digit (d ∷ cs)
 
-ends-append : (front ds : List ℕ) → ends_in_digit ds ≡ true → ends_in_digit (front ++ ds) ≡ true
+pub ends-append : (front ds : List ℕ) → ends_in_digit ds ≡ true → ends_in_digit (front ++ ds) ≡ true
 ends-append [] ds h = h
 ends-append (c ∷ []) [] h = absurd (false≢true h)
 ends-append (c ∷ []) (d ∷ ds) h = h
 ends-append (c ∷ e ∷ front) ds h = ends-append (e ∷ front) ds h
 
-digit-below : (n : ℕ) → n < 10 → is_ascii_digit (48 + n) ≡ true
+pub digit-below : (n : ℕ) → n < 10 → is_ascii_digit (48 + n) ≡ true
 digit-below n lt = grind (arith, nat_tests)
 
-decimal-ends : (n : ℕ) → n < 2 ^ 64 → ends_in_digit (decimal n) ≡ true
+pub decimal-ends : (n : ℕ) → n < 2 ^ 64 → ends_in_digit (decimal n) ≡ true
 decimal-ends =
     decimal_by_steps (λ n ds. ends_in_digit ds ≡ true) (λ n lt. digit-below n lt)
     (λ n ds le h. ends-append ds ((48 + n % 10) ∷ []) (digit-below (n % 10) (omega arith)))

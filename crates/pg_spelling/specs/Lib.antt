@@ -1,5 +1,7 @@
 pub mod Fresh
 pub mod Named
 pub mod Written
+pub mod Placed
 pub mod Laws
 pub mod Back
+pub mod TextBack

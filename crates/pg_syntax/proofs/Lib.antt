@@ -1,6 +1,8 @@
+pub mod Again
 pub mod Answering
 pub mod Calls
 pub mod Closing
+mod Examples
 pub mod Joins
 pub mod Lists
 pub mod Places

@@ -6,13 +6,14 @@ use Rattle.std.proofs.lemmas.Bool.Decides.{nat_tests}
 use Rattle.pg_logic.specs.Tree.{Tm, Tms, none, arg, Fm, falsum, eq, pred, and, or, imp, all, ex}
 use Rattle.pg_logic.specs.Declarations.{Name}
 use Rattle.pg_grammar.specs.Shapes.{Op, Implies, Or, And, Equal, NotEqual, LessEqual, Less, Plus, Times, Power, Shape, Named, Numeral, Falsum, Paren, Next, App, Neg, Quant, Binary, level, left_min, right_min, strength}
-use Rattle.pg_grammar.specs.Printing.{Join, Arrow, Either, Both, Equals, AtMost, Below, Sum, Product, Raised, sign_of, Tree, Ended, Call, Number, is_quant, operand, joined, negated, node_shape, applied, unplaced, shape_of, shapes_of}
+use Rattle.pg_grammar.specs.Printing.{Join, Arrow, Either, Both, Equals, AtMost, Below, Sum, Product, Raised, sign_of, Tree, Ended, Call, Number, is_quant, operand, joined, negated, applied, unplaced, shape_of, shapes_of}
 use Rattle.std.specs.Str.{bytes_eq}
 use Rattle.pg_terms.specs.declared.term.Term.{Term}
 use Rattle.pg_terms.specs.View.{term, args}
 use Rattle.pg_meaning.specs.Scope.{Scope}
 use Rattle.pg_spelling.specs.Named.{name_at, predicate_names, named, named_all, named_formula, at_arguments, alone, between, begins_with_digit, sign_in, sign_named}
 use Rattle.pg_spelling.specs.Written.{written}
+use Rattle.pg_spelling.proofs.Back.{arrow-other}
 use Rattle.pg_syntax.specs.Places.{weight, operand_text, is_falsum, is_equation}
 use Rattle.pg_syntax.specs.Texts.{arguments_text}
 
@@ -162,32 +163,6 @@ operand-bare least s some le = by_quant (is_quant s) refl
     by_quant : (b : Bool) → is_quant s ≡ b → operand_text least s ≡ written s
     by_quant true is = absurd (omega (arith, some, le, ap (λ b. cond b 0 (strength s)) is))
     by_quant false is = let high : nat_lt (strength s) least ≡ false = grind (arith, nat_tests, sym (ap (λ b. cond b 0 (strength s)) is), le) in rw (is, high) refl
-
--- ---- implications
-
--- only False has its tree
-pub arrow-other : (s : Scope) (a b : Fm) → (b ≡ falsum → ⊥) → shape_of (named_formula s (imp a b)) ≡ joined Implies (shape_of (named_formula s a)) (shape_of (named_formula s b))
-arrow-other s a falsum h = absurd (h refl)
-arrow-other s a (eq t u) h = refl
-arrow-other s a (pred p none) h = by_digit (begins_with_digit (name_at (predicate_names s.declared) p))
-  where
-    by_digit : (c : Bool) → node_shape Arrow (shape_of (named_formula s a)) (cond c (Number (name_at (predicate_names s.declared) p)) (Call (name_at (predicate_names s.declared) p) Ended)) (shape_of (cond c (Number (name_at (predicate_names s.declared) p)) (Call (name_at (predicate_names s.declared) p) Ended)))
-        ≡ joined Implies (shape_of (named_formula s a)) (shape_of (cond c (Number (name_at (predicate_names s.declared) p)) (Call (name_at (predicate_names s.declared) p) Ended)))
-    by_digit true = refl
-    by_digit false = refl
-arrow-other s a (pred p (arg t none)) h = refl
-arrow-other s a (pred p (arg t (arg u none))) h = by_sign (sign_named (name_at (predicate_names s.declared) p))
-  where
-    by_sign : (o : Option Join) → node_shape Arrow (shape_of (named_formula s a)) (between o (name_at (predicate_names s.declared) p) (named s t) (named s u)) (shape_of (between o (name_at (predicate_names s.declared) p) (named s t) (named s u)))
-        ≡ joined Implies (shape_of (named_formula s a)) (shape_of (between o (name_at (predicate_names s.declared) p) (named s t) (named s u)))
-    by_sign None = refl
-    by_sign (Some j) = refl
-arrow-other s a (pred p (arg t (arg u (arg v ts)))) h = refl
-arrow-other s a (and c d) h = refl
-arrow-other s a (or c d) h = refl
-arrow-other s a (imp c d) h = refl
-arrow-other s a (all x c) h = refl
-arrow-other s a (ex x c) h = refl
 
 -- ---- the table
 

@@ -14,6 +14,7 @@ ghost use Rattle.pg_spelling.specs.Back.{CanReadFormula, CanReadTerm, ReadsBack,
 ghost use Rattle.pg_spelling.specs.Written.{quantifier_text, written, printed, printed_formula};
 ghost use Rattle.pg_syntax.specs.Places.{scope_under, weight, operand_text, is_falsum, Sides};
 ghost use Rattle.pg_syntax.specs.Texts.{bound_text};
+ghost use Rattle.pg_syntax.specs.ReadBack.{FormulaComesBack, TermComesBack};
 
 use crate::fresh::Taken;
 use crate::names::Names;
@@ -224,7 +225,10 @@ fn write_bound(
 /// binder's name made fresh, and the least parentheses (docs/LOGIC.md, "Printing"). It is meant for
 /// a formula that fits and uses live names only, where no live name is a declared name or a reserved
 /// word; a number that has no name is printed as nothing. The shape of the text then means the same
-/// formula again. It fails only for want of memory.
+/// formula again. The text itself reads back as that formula, with its binders named as printed,
+/// where besides each name is the text of a token, a binder's printed name has at most 48 bytes, the
+/// text has at most 8,192 tokens, and none is nested more than 100 deep: `tokens_of` gives its tokens
+/// and no fault, and `read_formula` reads them as the formula. It fails only for want of memory.
 pub fn print_formula(
     alloc: Global,
     formula: &Formula,
@@ -233,6 +237,7 @@ pub fn print_formula(
 ) -> Result<String, AllocError>
     ensures text { IfOk result (λ text. string_bytes text ≡ printed_formula (outermost names.now.vars.items (declarations sig.now)) (view.formula formula.now)) }
     ensures reads { IfOk result (λ text. CanReadFormula names.now.vars.items (declarations sig.now) (view.formula formula.now) → ReadsBack (outermost names.now.vars.items (declarations sig.now)) (view.formula formula.now)) }
+    ensures again { IfOk result (λ text. FormulaComesBack names.now.vars.items (declarations sig.now) (view.formula formula.now) (string_bytes text)) }
 {
     let cx = Context { names, sig };
     let p = Printer { alloc, cx: &cx };
@@ -242,7 +247,9 @@ pub fn print_formula(
     Ok(out)
 }
 
-/// The text of a term, likewise.
+/// The text of a term, likewise. Its shape means the same term again, and the text reads back as that
+/// term where each name is the text of a token, and the text has at most 8,192 tokens, none of which
+/// is nested more than 100 deep.
 pub fn print_term(
     alloc: Global,
     term: &Term,
@@ -251,6 +258,7 @@ pub fn print_term(
 ) -> Result<String, AllocError>
     ensures text { IfOk result (λ text. string_bytes text ≡ printed (outermost names.now.vars.items (declarations sig.now)) (view.term term.now)) }
     ensures reads { IfOk result (λ text. CanReadTerm names.now.vars.items (declarations sig.now) (view.term term.now) → TermReadsBack (outermost names.now.vars.items (declarations sig.now)) (view.term term.now)) }
+    ensures again { IfOk result (λ text. TermComesBack names.now.vars.items (declarations sig.now) (view.term term.now) (string_bytes text)) }
 {
     let mut out = String::new(alloc);
     let place = Place {
