@@ -6,3 +6,4 @@ pub mod Unplaced
 pub mod Lexed
 pub mod FreshText
 pub mod TextBack
+mod Examples
