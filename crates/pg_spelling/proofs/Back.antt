@@ -17,7 +17,7 @@ use Rattle.pg_meaning.specs.Meaning.{thing_term, thing_formula, term_of, formula
 use Rattle.pg_meaning.specs.Meaning as meaning
 use Rattle.pg_meaning.specs.Live.{is_named, is_live, are_live, is_live_formula}
 use Rattle.pg_spelling.specs.Fresh.{fresh, is_taken}
-use Rattle.pg_spelling.specs.Named.{under, live, function_names, predicate_names, declared_names, taken, name_at, live_name, sign_in, sign_named, begins_with_digit, alone, between, at_arguments, named, named_all, named_formula}
+use Rattle.pg_spelling.specs.Named.{under, function_names, predicate_names, declared_names, taken, name_at, live_name, sign_in, sign_named, begins_with_digit, alone, between, at_arguments, named, named_all, named_formula}
 use Rattle.pg_spelling.specs.Occurring.{EachFunction, EachFunctions, EachSymbol}
 use Rattle.pg_spelling.specs.Back.{AllDiffer, CanName, CanTell, IsFunctionName, IsPredicateName, LiveDiffer, renamed, BackLaw, TermBackLaw}
 use Rattle.pg_grammar.proofs.Printing.{printing-law}

@@ -19,7 +19,8 @@ differ-first (x ∷ xs) ys h = (any-first (bytes_eq x) xs ys h.0, differ-first x
 
 -- ---- fewer names: of each function its own, and behind them zs in place of ys
 
-own-any : (p : Name → Bool) (fs : List NamedFunction) (ys zs : List Name) → (list_any p ys ≡ false → list_any p zs ≡ false) → list_any p (flat_map names_in fs ++ ys) ≡ false → list_any p (map name_of fs ++ zs) ≡ false
+own-any : (p : Name → Bool) (fs : List NamedFunction) (ys zs : List Name) → (list_any p ys ≡ false → list_any p zs ≡ false)
+    → list_any p (flat_map names_in fs ++ ys) ≡ false → list_any p (map name_of fs ++ zs) ≡ false
 own-any p [] ys zs k h = k h
 own-any p (by_recursion name n params base step zero_name succ_name ∷ fs) ys zs k h =
     let q = or_parts _ _ h in
@@ -28,7 +29,8 @@ own-any p (by_term name body equation_name ∷ fs) ys zs k h =
     let q = or_parts _ _ h in
     or_from _ _ q.0 (own-any p fs ys zs k (or_parts _ _ q.1).1)
 
-own-differ : (fs : List NamedFunction) (ys zs : List Name) → ((p : Name → Bool) → list_any p ys ≡ false → list_any p zs ≡ false) → (AllDiffer ys → AllDiffer zs) → AllDiffer (flat_map names_in fs ++ ys) → AllDiffer (map name_of fs ++ zs)
+own-differ : (fs : List NamedFunction) (ys zs : List Name) → ((p : Name → Bool) → list_any p ys ≡ false → list_any p zs ≡ false)
+    → (AllDiffer ys → AllDiffer zs) → AllDiffer (flat_map names_in fs ++ ys) → AllDiffer (map name_of fs ++ zs)
 own-differ [] ys zs fewer k h = k h
 own-differ (by_recursion name n params base step zero_name succ_name ∷ fs) ys zs fewer k h =
     (own-any (bytes_eq name) fs ys zs (fewer (bytes_eq name)) (or_parts _ _ (or_parts _ _ h.0).1).1, own-differ fs ys zs fewer k h.1.1.1)
@@ -46,7 +48,8 @@ clash-differ (x ∷ xs) h =
 pub declared-differ : (d : Declarations) → AreDeclared d → AllDiffer (declared_names d)
 declared-differ d h =
     let axioms : List Name = codes "succ_inj" ∷ codes "zero_ne_succ" ∷ [] in
-    own-differ d.functions (predicate_names d ++ axioms) (predicate_names d) (λ p. any-first p (predicate_names d) axioms) (differ-first (predicate_names d) axioms)
+    own-differ d.functions (predicate_names d ++ axioms) (predicate_names d) (λ p. any-first p (predicate_names d) axioms)
+    (differ-first (predicate_names d) axioms)
     (clash-differ (names_of d) h.names_differ)
 
 -- ---- the live names before them

@@ -1,19 +1,17 @@
 -- What the laws of printing ask can be met: ∀ x, x + 0 = x; a binder that a variable's name makes fresh; a number and ≤; 0 = 0
--- beside a ^ of one parameter, which the laws leave out only where it occurs.
-use Rattle.std.proofs.Common.{◌≡◌, ℕ, zero, suc, ◌+◌, ◌^◌, ◌<◌, ◌≤◌, List, [], ◌∷◌, ◌++◌, length, codes, sym, ◌∙◌, ap, refl, subst, arith}
-use Rattle.std.specs.Prelude.{true, Option, Some, None, slice_get, take}
+-- where ^ has one parameter but does not occur.
+use Rattle.std.proofs.Common.{◌≡◌, ℕ, zero, suc, ◌≤◌, List, [], ◌∷◌, codes, sym, refl, subst, arith}
+use Rattle.std.specs.Prelude.{true, Some, slice_get, take}
 use Rattle.std.specs.Str.{chars, encode_utf8_all, all_scalars}
 use Rattle.std.proofs.lemmas.Str.{chars-encodes}
 use Rattle.pg_base.specs.declared.token.TokenKind.TheVariants as kind
 use Rattle.pg_base.specs.Layout.{IsToken}
-use Rattle.pg_base.specs.Reserved.{is_reserved}
 use Rattle.pg_logic.specs.Tree.{free, bound, nought, succ, app, none, arg, Fm, eq, pred, all, ex}
-use Rattle.pg_logic.specs.Declarations.{Name, NamedFunction, by_recursion, by_term, NamedPredicate, Declarations, AreDeclared, HasParameters, arity_of, signature_of}
+use Rattle.pg_logic.specs.Declarations.{Name, by_recursion, by_term, Declarations, AreDeclared, HasParameters, arity_of, signature_of}
 use Rattle.pg_logic.specs.Signature.{fits, FitsFunction}
 use Rattle.pg_grammar.specs.Printing.{shape_of}
 use Rattle.pg_meaning.specs.Scope.{outermost}
 use Rattle.pg_spelling.specs.Named.{named_formula}
-use Rattle.pg_spelling.specs.Written.{printed_formula}
 use Rattle.pg_spelling.specs.Back.{CanReadTerm, ReadsBack}
 use Rattle.pg_spelling.specs.TextBack.{IsNameToken, IsNumberToken, IsTextOf, CanWriteFormula}
 use Rattle.pg_spelling.proofs.Back.{back-law}
@@ -167,7 +165,7 @@ pub one-text : IsTextOf (shape_of (named_formula (outermost (Some (codes "x") �
 unfolding lib.Utf8.encode
 one-text = text-law (Some (codes "x") ∷ []) orders one_at_most one-writes
 
--- ---- 0 = 0, beside a ^ of one parameter
+-- ---- 0 = 0, where ^ has one parameter but does not occur
 
 abbrev raises : Declarations
 raises = record { functions = by_recursion (codes "^") 1 (codes "n" ∷ []) nought (free 0) (codes "raise_zero") (codes "raise_succ") ∷ []; predicates = [] }
@@ -209,6 +207,6 @@ pub zero-text : IsTextOf (shape_of (named_formula (outermost [] raises) zero_is_
 unfolding lib.Utf8.encode
 zero-text = text-law [] raises zero_is_zero zero-writes
 
--- where it occurs, its argument stands behind a sign
+-- the term with ^ before its one argument is left out
 pub raised-out : CanReadTerm [] raises (app 0 (arg nought none)) → ⊥
 raised-out h = absurd (omega (arith, h.named.0))

@@ -1,6 +1,6 @@
 -- A name made fresh is the text of a name token again.
-use Rattle.std.proofs.Common.{◌≡◌, ℕ, suc, ◌+◌, ◌/◌, ◌%◌, ◌^◌, ◌<◌, ◌≤◌, ◌==◌, Bool, true, false, cond, ◌&&◌, ◌||◌, nat_lt, List, [], ◌∷◌, ◌++◌, length, None, sym, ◌∙◌, ap, refl, subst, arith, append-nil, length-append, decimal}
-use Rattle.std.proofs.lemmas.Bool.{and_parts, and_from, or_parts, false≢true}
+use Rattle.std.proofs.Common.{◌≡◌, ℕ, suc, ◌+◌, ◌/◌, ◌%◌, ◌^◌, ◌<◌, ◌≤◌, ◌==◌, Bool, true, false, cond, ◌&&◌, ◌||◌, nat_lt, List, [], ◌∷◌, ◌++◌, length, None, sym, ◌∙◌, ap, refl, subst, arith, decimal}
+use Rattle.std.proofs.lemmas.Bool.{and_parts, and_from, or_parts}
 use Rattle.std.proofs.lemmas.Bool.Decides.{nat_tests}
 use Rattle.std.proofs.lemmas.Slice.Eq.{bytes_eq-Decides}
 use Rattle.std.proofs.lemmas.Fmt.{decimal_by_steps}
@@ -8,12 +8,10 @@ use Rattle.std.proofs.lemmas.Str.{chars-encodes, encodes-chars, encodes-IsAscii,
 use Rattle.std.proofs.lemmas.Str.Ascii.{IsAscii-nil, IsAscii-cons}
 use Rattle.std.specs.Char.{is_ascii_digit, encode_utf8}
 use Rattle.std.specs.Str.{bytes_eq, chars, IsUtf8, IsAscii, encode_utf8_all, all_scalars}
-use Rattle.pg_base.specs.declared.token.TokenKind.TheVariants as kind
-use Rattle.pg_base.specs.Characters.{character, is_letter, is_name_character, begins_with_letter, begins_with_prefix_name, name_length}
+use Rattle.pg_base.specs.Characters.{character, is_name_character, begins_with_letter, name_length}
 use Rattle.pg_base.specs.Signs.{sign_names, sign_of_name}
-use Rattle.pg_base.specs.Layout.{IsName, IsToken}
-use Rattle.pg_logic.specs.Declarations.{Name}
-use Rattle.pg_spelling.specs.Fresh.{is_taken, kept, stem, numbered, free_number, fresh}
+use Rattle.pg_base.specs.Layout.{IsName}
+use Rattle.pg_spelling.specs.Fresh.{is_taken, kept, stem, numbered, free_number}
 use Rattle.pg_spelling.specs.TextBack.{IsNameToken, IsFreeName, FreshNameLaw}
 use Rattle.pg_spelling.proofs.Fresh.{by_bool, digit-below, ends_in_digit, ends-append, decimal-ends, numbered-plain, free-bounds}
 use Rattle.pg_spelling.proofs.Lexed.{digit-no_letter, differs, no-row, goes_on, letter-front, IsOutside, no-prefix}

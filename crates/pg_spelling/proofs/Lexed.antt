@@ -1,22 +1,21 @@
 -- Tokens at the front of a text, and what comes behind them.
-use Rattle.std.proofs.Common.{◌≡◌, ℕ, zero, suc, ◌+◌, ◌-◌, ◌<◌, ◌≤◌, Bool, true, false, cond, ◌&&◌, ◌||◌, not, nat_le, nat_lt, List, [], ◌∷◌, ◌++◌, length, take, drop, map, Option, Some, None, option_map, unwrap_or, codes, ◌==◌, inl, sym, ◌∙◌, ap, refl, subst, arith, append_assoc, append-nil, length-append}
-use Rattle.std.proofs.lemmas.Bool.{and_parts, or_parts, false≢true}
+use Rattle.std.proofs.Common.{◌≡◌, ℕ, suc, ◌+◌, ◌-◌, ◌≤◌, Bool, true, false, cond, ◌&&◌, ◌||◌, not, nat_le, nat_lt, List, [], ◌∷◌, ◌++◌, length, drop, map, Some, None, option_map, unwrap_or, codes, ◌==◌, inl, sym, ◌∙◌, ap, refl, subst, arith, append_assoc, append-nil, length-append}
+use Rattle.std.proofs.lemmas.Bool.{and_parts, false≢true}
 use Rattle.std.proofs.lemmas.Bool.Decides.{nat_tests}
 use Rattle.std.proofs.lemmas.List.{take_at}
 use Rattle.std.proofs.lemmas.Slice.Eq.{bytes_eq-Decides}
-use Rattle.std.proofs.lemmas.Str.{chars-encodes, encodes-chars, chars-append, chars-nil, length-encode}
+use Rattle.std.proofs.lemmas.Str.{encodes-chars, length-encode}
 use Rattle.std.specs.Char.{len_utf8, is_ascii_digit, encode_utf8}
 use Rattle.std.specs.List.{list_all}
-use Rattle.std.specs.Str.{bytes_eq, chars, IsUtf8, encode_utf8_all, all_scalars}
+use Rattle.std.specs.Str.{bytes_eq, chars, encode_utf8_all}
 use Rattle.pg_base.specs.declared.token.Sign.{Sign}
 use Rattle.pg_base.specs.declared.token.Sign.TheVariants as sign
 use Rattle.pg_base.specs.declared.token.TokenKind.{TokenKind}
 use Rattle.pg_base.specs.declared.token.TokenKind.TheVariants as kind
 use Rattle.pg_base.specs.declared.token.LexFault.{LexFault}
-use Rattle.pg_base.specs.declared.token.Piece.{Piece}
-use Rattle.pg_base.specs.declared.token.Piece.TheVariants.{Gap, Lexeme, Bad}
+use Rattle.pg_base.specs.declared.token.Piece.TheVariants.{Lexeme}
 use Rattle.pg_base.specs.Characters.{character, is_letter, is_blank, is_name_character, begins_with, begins_with_letter, begins_with_prefix_name, name_length, number_length}
-use Rattle.pg_base.specs.Signs.{sign_in, two_character_signs, sign_of_one, sign_of_two, sign_of_name}
+use Rattle.pg_base.specs.Signs.{sign_in, two_character_signs, sign_of_two, sign_of_name}
 use Rattle.pg_base.specs.Reserved.{is_reserved}
 use Rattle.pg_base.specs.Tokens.{Position, Lexed, past, begun, size, piece_at, name_piece, name_kind, token_text, is_long, with_piece, with_word, lexed_from}
 use Rattle.pg_base.specs.Layout.{IsName, IsAlone, IsToken}

@@ -1,30 +1,28 @@
 -- The tokens of a printed text spell the printed shape.
-use Rattle.std.proofs.Common.{◌≡◌, ℕ, zero, suc, ◌+◌, ◌^◌, ◌<◌, ◌≤◌, Bool, true, false, cond, ◌&&◌, ◌||◌, List, [], ◌∷◌, ◌++◌, length, map, codes, sym, ◌∙◌, ap, ap₂, refl, subst, arith, append_assoc, append-nil, length-append}
-use Rattle.std.specs.Prelude.{Option, Some, None, nat_lt, slice_get, slice_index_or}
-use Rattle.std.specs.Char.{is_ascii_digit, len_utf8}
-use Rattle.std.specs.Str.{chars, IsUtf8, encode_utf8_all, all_scalars}
-use Rattle.std.proofs.lemmas.Bool.{and_parts, or_parts, false≢true, ltb-true}
+use Rattle.std.proofs.Common.{◌≡◌, ℕ, zero, suc, ◌+◌, ◌<◌, Bool, true, false, cond, ◌||◌, List, [], ◌∷◌, ◌++◌, length, map, codes, sym, ◌∙◌, ap, refl, subst, arith, append_assoc, append-nil, length-append}
+use Rattle.std.specs.Prelude.{Option, Some, None, nat_lt, slice_get}
+use Rattle.std.specs.Str.{chars, encode_utf8_all, all_scalars}
+use Rattle.std.proofs.lemmas.Bool.{and_parts, false≢true, ltb-true}
 use Rattle.std.proofs.lemmas.Str.{chars-encodes, chars-append, chars-nil}
 use Rattle.pg_base.specs.declared.token.Sign.TheVariants as sign
 use Rattle.pg_base.specs.declared.token.TokenKind.TheVariants as kind
-use Rattle.pg_base.specs.Tokens.{Position, start, lexed, lexed_from}
+use Rattle.pg_base.specs.Tokens.{Position, start, lexed_from}
 use Rattle.pg_base.specs.Layout.{IsToken}
 use Rattle.pg_shape.specs.Symbols.{symbol}
 use Rattle.pg_logic.specs.Tree.{Tm, free, bound, nought, succ, app, Tms, none, arg, Fm, falsum, eq, pred, and, or, imp, all, ex}
-use Rattle.pg_logic.specs.Declarations.{Name, NamedFunction, NamedPredicate, Declarations, name_of, arity_of, signature_of}
+use Rattle.pg_logic.specs.Declarations.{Name, Declarations, name_of, arity_of, signature_of}
 use Rattle.pg_logic.specs.Signature.{fits, fits_term, fits_terms, count}
-use Rattle.pg_grammar.specs.Shapes.{Op, Implies, Or, And, Equal, NotEqual, LessEqual, Less, Plus, Times, Power, Quantifier, ForAll, Exists, Sym, Sign, QuantSign, Word, Binders, Plain, Shape, Named, Numeral, Falsum, Paren, Next, App, Neg, Quant, Binary, spelled, strength, left_min, right_min}
+use Rattle.pg_grammar.specs.Shapes.{Op, Implies, Or, And, Equal, NotEqual, LessEqual, Less, Plus, Times, Power, Quantifier, ForAll, Exists, Sign, QuantSign, Binders, Plain, Shape, Named, Numeral, Falsum, Paren, Next, App, Neg, Quant, Binary, spelled, strength, left_min, right_min}
 use Rattle.pg_grammar.specs.Printing.{Join, Arrow, Either, Both, Equals, AtMost, Below, Sum, Product, Raised, Tree, Trees, Ended, Also, Call, Number, Never, After, Node, Bind, sign_of, is_quant, operand, joined, negated, node_shape, applied, unplaced, one_name, shape_of, shapes_of}
 use Rattle.pg_meaning.specs.Scope.{Scope, outermost}
 use Rattle.pg_meaning.specs.Live.{is_named, is_live, are_live, is_live_formula}
 use Rattle.pg_spelling.specs.Fresh.{fresh}
-use Rattle.pg_spelling.specs.Named.{under, function_names, predicate_names, taken, name_at, live_name, sign_named, begins_with_digit, alone, between, at_arguments, named, named_all, named_formula}
-use Rattle.pg_spelling.specs.Written.{op_text, quantifier_text, not_text, written, printed, printed_formula}
+use Rattle.pg_spelling.specs.Named.{under, function_names, predicate_names, taken, name_at, live_name, sign_named, begins_with_digit, between, at_arguments, named, named_all, named_formula}
+use Rattle.pg_spelling.specs.Written.{op_text, quantifier_text, written}
 use Rattle.pg_spelling.specs.Occurring.{EachFunction, EachFunctions, EachSymbol}
 use Rattle.pg_spelling.specs.Back.{CanName, CanTell, IsFunctionName, IsPredicateName}
 use Rattle.pg_spelling.specs.Placed.{placed}
-use Rattle.pg_spelling.specs.TextBack.{IsNameToken, IsNumberToken, IsFreeName, Stops, IsDeclaredText, IsFunctionText, IsPredicateText, AreFree, AreBinders, IsTextOf, TermTextLaw, TextLaw}
-use Rattle.pg_spelling.proofs.Fresh.{by_bool}
+use Rattle.pg_spelling.specs.TextBack.{IsNumberToken, IsFreeName, Stops, IsDeclaredText, IsFunctionText, IsPredicateText, AreFree, AreBinders, IsTextOf, TermTextLaw, TextLaw}
 use Rattle.pg_spelling.proofs.Back.{Declared, declared, of-declared, Told, told, of-told, name-get, named-function, named-predicate, HasRoom, has-room}
 use Rattle.pg_spelling.proofs.Lexed.{Goes, goes-then, goes-to, goes-free, goes-number, goes-word, goes-sign, goes-blank, goes-open, goes-close}
 use Rattle.pg_spelling.proofs.FreshText.{fresh-name-law}

@@ -2,14 +2,14 @@
 use Rattle.std.proofs.Common.{◌≡◌, ℕ, suc, ◌+◌, ◌≤◌, Bool, true, false, cond, ◌||◌, ◌==◌, List, [], ◌∷◌, ◌++◌, length, map, sym, ◌∙◌, ap, ap₂, refl, subst}
 use Rattle.std.specs.Prelude.{Option, Some, None, option_map, nat_lt}
 use Rattle.std.specs.Option.{option_or}
-use Rattle.pg_logic.specs.Tree.{Tm, succ, Fm, imp, eq, and, or}
-use Rattle.pg_grammar.specs.Shapes.{Op, Implies, Or, And, Equal, NotEqual, LessEqual, Less, Plus, Times, Power, Quantifier, Word, Sym, Name, Colon, NatSign, Group, Bracket, Binders, Plain, Typed, Grouped, names, plain, typed, Shape, Named, Numeral, Falsum, Paren, Next, App, Neg, Quant, Binary, IsShape, strength, can_apply, closed, left_min, right_min}
+use Rattle.pg_logic.specs.Tree.{succ, Fm, imp, eq, and, or}
+use Rattle.pg_grammar.specs.Shapes.{Op, Implies, Or, And, Equal, NotEqual, LessEqual, Less, Plus, Times, Power, Quantifier, Word, Sym, Colon, NatSign, Group, Bracket, Binders, Plain, Typed, Grouped, names, Shape, Named, Numeral, Falsum, Paren, Next, App, Neg, Quant, Binary, IsShape, strength, can_apply, closed, left_min, right_min}
 use Rattle.pg_grammar.specs.Nesting.{depths, right_depth, level_with, bracket_depths, all_bracket_depths, binder_depths}
-use Rattle.pg_grammar.specs.Printing.{Join, Arrow, Either, Both, Equals, AtMost, Below, Sum, Product, Raised, Tree, Trees, Ended, Also, Call, Number, Never, After, Node, Bind, sign_of, group_words, bracket_words, binder_words, is_quant, operand, joined, negated, node_shape, applied, unplaced, one_name, shape_of, shapes_of}
-use Rattle.pg_meaning.specs.Scope.{Scope, under, in_body, looked_up, name_needs, number_needs, sign_needs}
+use Rattle.pg_grammar.specs.Printing.{Join, Arrow, Either, Both, Equals, AtMost, Below, Sum, Product, Raised, Tree, Trees, Ended, Also, Call, Number, Never, After, Node, Bind, group_words, bracket_words, binder_words, is_quant, operand, joined, negated, node_shape, applied, unplaced, one_name, shape_of, shapes_of}
+use Rattle.pg_meaning.specs.Scope.{Scope, under, in_body, name_needs, number_needs, sign_needs}
 use Rattle.pg_meaning.specs.Faults.{Sort, TermSort, FormulaSort, Fault, Expected, Unknown, Arity, operand_sort, sort, beginning, misfit, use_fault, head_fault, own_fault, own_or, parts_fault, first_fault}
 use Rattle.pg_meaning.specs.Meaning.{term_of, formula_of, applied as applied_term, holds_at, denied, sign_term, sign_formula, bound_by, quantified}
-use Rattle.pg_spelling.specs.Written.{op_text, quantifier_text, group_text, bracket_text, brackets_text, binders_text, written}
+use Rattle.pg_spelling.specs.Written.{op_text, quantifier_text, bracket_text, brackets_text, binders_text, written}
 use Rattle.pg_spelling.specs.Placed.{placed_word, placed_words, placed_group, placed_bracket, placed_brackets, placed_binders, placed, placeless_group, placeless_bracket, placeless_binders, placeless, AreAlike, PlaceLaw}
 
 -- ---- placed and without places

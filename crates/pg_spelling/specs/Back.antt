@@ -95,7 +95,9 @@ pub record CanReadFormula (vars : List (Option Name)) (d : Declarations) (a : Fm
 
 -- The declarations are those of a signature: no two declared names are equal.
 abbrev pub TermBackLaw : Type 0
-TermBackLaw = (vars : List (Option Name)) (d : Declarations) (t : Tm) → AreDeclared d → CanReadTerm vars d t → TermReadsBack (outermost vars d) t
+TermBackLaw =
+    (vars : List (Option Name)) (d : Declarations) (t : Tm) → AreDeclared d → CanReadTerm vars d t → TermReadsBack (outermost vars d) t
 
 abbrev pub BackLaw : Type 0
-BackLaw = (vars : List (Option Name)) (d : Declarations) (a : Fm) → AreDeclared d → CanReadFormula vars d a → ReadsBack (outermost vars d) a
+BackLaw =
+    (vars : List (Option Name)) (d : Declarations) (a : Fm) → AreDeclared d → CanReadFormula vars d a → ReadsBack (outermost vars d) a

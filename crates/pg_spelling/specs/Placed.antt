@@ -1,13 +1,12 @@
 -- Shapes with the places at which their tokens stand in their text, and shapes without places.
 use Rattle.std.specs.Prelude.{ℕ, ◌≡◌, ◌+◌, List, [], ◌∷◌, length, map, None}
-use Rattle.pg_logic.specs.Tree.{Tm, Fm}
 use Rattle.pg_grammar.specs.Shapes.{Word, Group, Bracket, Binders, Plain, Typed, Grouped, Shape, Named, Numeral, Falsum, Paren, Next, App, Neg, Quant, Binary, IsShape}
 use Rattle.pg_grammar.specs.Nesting.{depths}
 use Rattle.pg_grammar.specs.Printing.{Tree, shape_of}
 use Rattle.pg_meaning.specs.Scope.{Scope}
 use Rattle.pg_meaning.specs.Faults.{Sort, first_fault}
 use Rattle.pg_meaning.specs.Meaning.{term_of, formula_of}
-use Rattle.pg_spelling.specs.Written.{op_text, quantifier_text, group_text, bracket_text, brackets_text, binders_text, written}
+use Rattle.pg_spelling.specs.Written.{op_text, quantifier_text, bracket_text, brackets_text, binders_text, written}
 
 -- ---- in the text
 
