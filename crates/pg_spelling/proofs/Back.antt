@@ -1,12 +1,12 @@
 -- What is printed means the same again.
 use Rattle.std.proofs.Common.{◌≡◌, ℕ, zero, suc, ◌+◌, ◌^◌, ◌<◌, Bool, true, false, cond, ◌||◌, List, [], ◌∷◌, ◌++◌, length, codes, refl, ap, ap₂, sym, ◌∙◌, subst, append-nil, arith}
-use Rattle.std.specs.Prelude.{Option, Some, None, option_map, unwrap_or, nat_lt, slice_get, ◌==◌}
-use Rattle.std.specs.Option.{option_or}
+use Rattle.std.specs.Prelude.{⊤, Option, Some, None, option_map, unwrap_or, nat_lt, slice_get, ◌==◌}
+use Rattle.std.specs.Option.{IfSome, option_or}
 use Rattle.std.specs.Str.{bytes_eq}
 use Rattle.std.proofs.lemmas.Bool.{and_parts, and_from, false≢true, ltb-true, eqb-true, eq-eqb}
-use Rattle.std.proofs.lemmas.Option.{slice_get-map}
+use Rattle.std.proofs.lemmas.Option.{slice_get-map, MatchOption-at_some}
 use Rattle.pg_logic.specs.Tree.{Tm, free, bound, nought, succ, app, Tms, none, arg, Fm, falsum, eq, pred, and, or, imp, all, ex, same, same_all, same_formula, nodes_of}
-use Rattle.pg_logic.specs.Declarations.{Name, NamedFunction, by_recursion, by_term, NamedPredicate, Declarations, name_of, arity_of, function_of, predicate_of, signature_of}
+use Rattle.pg_logic.specs.Declarations.{Name, NamedFunction, by_recursion, by_term, NamedPredicate, Declarations, AreDeclared, name_of, arity_of, function_of, predicate_of, signature_of}
 use Rattle.pg_logic.specs.Signature as logic
 use Rattle.pg_logic.specs.Signature.{fits, fits_term, fits_terms, count, takes, holds_of}
 use Rattle.pg_grammar.specs.Shapes.{Op, Implies, Or, And, Equal, LessEqual, Less, Plus, Times, Power, Shape, Named, Numeral, Paren, App, Neg, Binary, left_min, right_min, strength}
@@ -17,11 +17,13 @@ use Rattle.pg_meaning.specs.Meaning.{thing_term, thing_formula, term_of, formula
 use Rattle.pg_meaning.specs.Meaning as meaning
 use Rattle.pg_meaning.specs.Live.{is_named, is_live, are_live, is_live_formula}
 use Rattle.pg_spelling.specs.Fresh.{fresh, is_taken}
-use Rattle.pg_spelling.specs.Named.{under, live, function_names, predicate_names, declared_names, taken, name_at, live_name, sign_in, sign_named, begins_with_digit, alone, between, at_arguments, named, named_all, named_formula}
-use Rattle.pg_spelling.specs.Back.{AllDiffer, CanName, CanTell, AreNamed, renamed, BackLaw, TermBackLaw}
+use Rattle.pg_spelling.specs.Named.{under, function_names, predicate_names, declared_names, taken, name_at, live_name, sign_in, sign_named, begins_with_digit, alone, between, at_arguments, named, named_all, named_formula}
+use Rattle.pg_spelling.specs.Occurring.{EachFunction, EachFunctions, EachSymbol}
+use Rattle.pg_spelling.specs.Back.{AllDiffer, CanName, CanTell, IsFunctionName, IsPredicateName, LiveDiffer, renamed, BackLaw, TermBackLaw}
 use Rattle.pg_grammar.proofs.Printing.{printing-law}
 use Rattle.pg_spelling.proofs.Fresh.{by_bool, fresh-law}
 use Rattle.pg_spelling.proofs.Places.{IsApart, apart-under, apart-outermost, place-named, equal}
+use Rattle.pg_spelling.proofs.Differ.{declared-differ, all-differ}
 
 -- ---- shapes that mean something
 
@@ -150,6 +152,10 @@ declared d f n h = go (slice_get d.functions f) refl (sym (ap (λ o. takes o n) 
     go None e h = absurd (false≢true h)
     go (Some g) e h = record { one = g; is = e; arity = sym (own_arity g) ∙ eqb-true _ _ h }
 
+-- what is claimed of it
+pub of-declared : {d : Declarations} {f n : ℕ} (P : NamedFunction → Type 0) (g : Declared d f n) → IfSome (slice_get d.functions f) P → P g.one
+of-declared P g h = MatchOption-at_some ⊤ P g.one g.is h
+
 pub record Told (d : Declarations) (p n : ℕ) : Type 0 where
   pub one : NamedPredicate
   pub is : slice_get d.predicates p ≡ Some one
@@ -161,6 +167,9 @@ told d p n h = go (slice_get d.predicates p) refl (sym (ap (λ o. holds_of o n) 
     go : (o : Option NamedPredicate) → slice_get d.predicates p ≡ o → holds_of (option_map predicate_of o) n ≡ true → Told d p n
     go None e h = absurd (false≢true h)
     go (Some q) e h = record { one = q; is = e; arity = eqb-true _ _ h }
+
+pub of-told : {d : Declarations} {p n : ℕ} (Q : NamedPredicate → Type 0) (q : Told d p n) → IfSome (slice_get d.predicates p) Q → Q q.one
+of-told Q q h = MatchOption-at_some ⊤ Q q.one q.is h
 
 pub name-get : (names : List Name) (i : ℕ) (x : Name) → slice_get names i ≡ Some x → name_at names i ≡ x
 name-get [] i x e = cc
@@ -192,7 +201,6 @@ text-named name = text-in ((codes "+", Sum) ∷ (codes "*", Product) ∷ (codes 
 record Ready (s : Scope) : Type 0 where
   apart : IsApart s
   differ : AllDiffer (declared_names s.declared)
-  fit : AreNamed s.declared
 
 second : (xs ys : List Name) → AllDiffer (xs ++ ys) → AllDiffer (ys ++ [])
 second [] ys h = subst AllDiffer (sym (append-nil ys)) h
@@ -262,8 +270,8 @@ numeral-term s r f one is e other =
       means = ap (λ b. cond b nought (function_term (function_named s.declared (name_of one)) none)) other ∙ ap (λ o. function_term o none) place;
     }
 
-alone-term : (s : Scope) → Ready s → (f : ℕ) (one : NamedFunction) → slice_get s.declared.functions f ≡ Some one → arity_of one ≡ 0 → IsTerm s (shape_of (alone (name_of one))) (app f none)
-alone-term s r f one is e = go (sign_named (name_of one)) (begins_with_digit (name_of one)) (r.fit.functions f one is)
+alone-term : (s : Scope) → Ready s → (f : ℕ) (one : NamedFunction) → slice_get s.declared.functions f ≡ Some one → arity_of one ≡ 0 → IsFunctionName one → IsTerm s (shape_of (alone (name_of one))) (app f none)
+alone-term s r f one is e allowed = go (sign_named (name_of one)) (begins_with_digit (name_of one)) allowed
   where
     go : (o : Option Join) (b : Bool) → CanName o b (name_of one) (arity_of one) → IsTerm s (shape_of (cond b (Number (name_of one)) (Call (name_of one) Ended))) (app f none)
     go o false can = call-term s r f one none is e tt
@@ -278,8 +286,8 @@ alone-term s r f one is e = go (sign_named (name_of one)) (begins_with_digit (na
     go (Some AtMost) true can = absurd can
     go (Some Below) true can = absurd can
 
-alone-formula : (s : Scope) → Ready s → (p : ℕ) (one : NamedPredicate) → slice_get s.declared.predicates p ≡ Some one → one.arity ≡ 0 → IsFormula s (shape_of (alone one.name)) (pred p none)
-alone-formula s r p one is e = go (sign_named one.name) (begins_with_digit one.name) (r.fit.predicates p one is)
+alone-formula : (s : Scope) → Ready s → (p : ℕ) (one : NamedPredicate) → slice_get s.declared.predicates p ≡ Some one → one.arity ≡ 0 → IsPredicateName one → IsFormula s (shape_of (alone one.name)) (pred p none)
+alone-formula s r p one is e allowed = go (sign_named one.name) (begins_with_digit one.name) allowed
   where
     go : (o : Option Join) (b : Bool) → CanTell o b one.arity → IsFormula s (shape_of (cond b (Number one.name) (Call one.name Ended))) (pred p none)
     go o false can = call-formula s r p one none is e tt
@@ -326,9 +334,9 @@ predicate-sign s r p one op is e text =
     let place : predicate_named s.declared (sign_text op) ≡ Some p = ap (predicate_named s.declared) (sym text) ∙ place-predicate s r p one is in
     (place, ap (option_map (predicate_needs s.declared)) place ∙ ap Some (needs-predicate s p 2 one is e))
 
-two-term : (s : Scope) → Ready s → (f : ℕ) (one : NamedFunction) (a b : Tm) → slice_get s.declared.functions f ≡ Some one → arity_of one ≡ 2
+two-term : (s : Scope) → Ready s → (f : ℕ) (one : NamedFunction) (a b : Tm) → slice_get s.declared.functions f ≡ Some one → arity_of one ≡ 2 → IsFunctionName one
     → IsTerm s (shape_of (named s a)) a → IsTerm s (shape_of (named s b)) b → IsTerm s (shape_of (between (sign_named (name_of one)) (name_of one) (named s a) (named s b))) (app f (arg a (arg b none)))
-two-term s r f one a b is e m k = go (sign_named (name_of one)) (begins_with_digit (name_of one)) (r.fit.functions f one is) (text-named (name_of one))
+two-term s r f one a b is e allowed m k = go (sign_named (name_of one)) (begins_with_digit (name_of one)) allowed (text-named (name_of one))
   where
     go : (o : Option Join) (d : Bool) → CanName o d (name_of one) (arity_of one) → IsText (name_of one) o → IsTerm s (shape_of (between o (name_of one) (named s a) (named s b))) (app f (arg a (arg b none)))
     go None d can text = call-term s r f one (arg a (arg b none)) is e (m, (k, tt))
@@ -366,9 +374,9 @@ below s p l r a b place needs m k =
           ∙ ap₂ (λ x y. pred p (arg x (arg y none))) ((term-operand s 51 l a m).means) ((term-operand s 51 r b k).means);
     }
 
-two-formula : (s : Scope) → Ready s → (p : ℕ) (one : NamedPredicate) (a b : Tm) → slice_get s.declared.predicates p ≡ Some one → one.arity ≡ 2
+two-formula : (s : Scope) → Ready s → (p : ℕ) (one : NamedPredicate) (a b : Tm) → slice_get s.declared.predicates p ≡ Some one → one.arity ≡ 2 → IsPredicateName one
     → IsTerm s (shape_of (named s a)) a → IsTerm s (shape_of (named s b)) b → IsFormula s (shape_of (between (sign_named one.name) one.name (named s a) (named s b))) (pred p (arg a (arg b none)))
-two-formula s r p one a b is e m k = go (sign_named one.name) (begins_with_digit one.name) (r.fit.predicates p one is) (text-named one.name)
+two-formula s r p one a b is e allowed m k = go (sign_named one.name) (begins_with_digit one.name) allowed (text-named one.name)
   where
     go : (o : Option Join) (d : Bool) → CanTell o d one.arity → IsText one.name o → IsFormula s (shape_of (between o one.name (named s a) (named s b))) (pred p (arg a (arg b none)))
     go None d can text = call-formula s r p one (arg a (arg b none)) is e (m, (k, tt))
@@ -384,19 +392,19 @@ two-formula s r p one a b is e m k = go (sign_named one.name) (begins_with_digit
 
 -- ---- functions and predicates at arguments
 
-at-term : (s : Scope) → Ready s → (f : ℕ) (one : NamedFunction) (ts : Tms) → slice_get s.declared.functions f ≡ Some one → arity_of one ≡ count ts → AllTerms s (shapes_of (named_all s ts)) ts
+at-term : (s : Scope) → Ready s → (f : ℕ) (one : NamedFunction) (ts : Tms) → slice_get s.declared.functions f ≡ Some one → arity_of one ≡ count ts → IsFunctionName one → AllTerms s (shapes_of (named_all s ts)) ts
     → IsTerm s (shape_of (at_arguments (name_of one) (named_all s ts))) (app f ts)
-at-term s r f one none is e each = alone-term s r f one is e
-at-term s r f one (arg a none) is e each = call-term s r f one (arg a none) is e each
-at-term s r f one (arg a (arg b none)) is e each = two-term s r f one a b is e each.0 each.1.0
-at-term s r f one (arg a (arg b (arg d ts))) is e each = call-term s r f one (arg a (arg b (arg d ts))) is e each
+at-term s r f one none is e allowed each = alone-term s r f one is e allowed
+at-term s r f one (arg a none) is e allowed each = call-term s r f one (arg a none) is e each
+at-term s r f one (arg a (arg b none)) is e allowed each = two-term s r f one a b is e allowed each.0 each.1.0
+at-term s r f one (arg a (arg b (arg d ts))) is e allowed each = call-term s r f one (arg a (arg b (arg d ts))) is e each
 
-at-formula : (s : Scope) → Ready s → (p : ℕ) (one : NamedPredicate) (ts : Tms) → slice_get s.declared.predicates p ≡ Some one → one.arity ≡ count ts → AllTerms s (shapes_of (named_all s ts)) ts
+at-formula : (s : Scope) → Ready s → (p : ℕ) (one : NamedPredicate) (ts : Tms) → slice_get s.declared.predicates p ≡ Some one → one.arity ≡ count ts → IsPredicateName one → AllTerms s (shapes_of (named_all s ts)) ts
     → IsFormula s (shape_of (at_arguments one.name (named_all s ts))) (pred p ts)
-at-formula s r p one none is e each = alone-formula s r p one is e
-at-formula s r p one (arg a none) is e each = call-formula s r p one (arg a none) is e each
-at-formula s r p one (arg a (arg b none)) is e each = two-formula s r p one a b is e each.0 each.1.0
-at-formula s r p one (arg a (arg b (arg d ts))) is e each = call-formula s r p one (arg a (arg b (arg d ts))) is e each
+at-formula s r p one none is e allowed each = alone-formula s r p one is e allowed
+at-formula s r p one (arg a none) is e allowed each = call-formula s r p one (arg a none) is e each
+at-formula s r p one (arg a (arg b none)) is e allowed each = two-formula s r p one a b is e allowed each.0 each.1.0
+at-formula s r p one (arg a (arg b (arg d ts))) is e allowed each = call-formula s r p one (arg a (arg b (arg d ts))) is e each
 
 -- ---- terms
 
@@ -423,26 +431,28 @@ bound-term s r i lt =
     }
 
 mutual
-  term-back : (s : Scope) → Ready s → (n : ℕ) (t : Tm) → fits_term (signature_of s.declared).functions n (length s.binders) t ≡ true → is_live s.vars t ≡ true → IsTerm s (shape_of (named s t)) t
-  term-back s r n (free i) h l = free-term s r i (slice_get s.vars i) refl l
-  term-back s r n (bound i) h l = bound-term s r i (ltb-true _ _ h)
-  term-back s r n nought h l = record { sorted = refl; head = refl; parts = refl; means = refl }
-  term-back s r n (succ t) h l =
-      let m : IsTerm s (operand 101 (shape_of (named s t))) t = term-operand s 101 (shape_of (named s t)) t (term-back s r n t h l) in
+  term-back : (s : Scope) → Ready s → (n : ℕ) (t : Tm) → fits_term (signature_of s.declared).functions n (length s.binders) t ≡ true → is_live s.vars t ≡ true → EachFunction IsFunctionName s.declared t
+      → IsTerm s (shape_of (named s t)) t
+  term-back s r n (free i) h l k = free-term s r i (slice_get s.vars i) refl l
+  term-back s r n (bound i) h l k = bound-term s r i (ltb-true _ _ h)
+  term-back s r n nought h l k = record { sorted = refl; head = refl; parts = refl; means = refl }
+  term-back s r n (succ t) h l k =
+      let m : IsTerm s (operand 101 (shape_of (named s t))) t = term-operand s 101 (shape_of (named s t)) t (term-back s r n t h l k) in
       record { sorted = refl; head = refl; parts = term-faultless s (operand 101 (shape_of (named s t))) t m; means = ap succ m.means }
-  term-back s r n (app f ts) h l =
+  term-back s r n (app f ts) h l k =
       let p = and_parts _ _ h in
       let d : Declared s.declared f (count ts) = declared s.declared f (count ts) p.0 in
       let x : name_at (function_names s.declared) f ≡ name_of d.one = name-get (function_names s.declared) f (name_of d.one) (named-function s f d.one d.is) in
       let P : Name → Type 0 = λ y. IsTerm s (shape_of (at_arguments y (named_all s ts))) (app f ts) in
-      subst P (sym x) (at-term s r f d.one ts d.is d.arity (terms-back s r n ts p.1 l))
+      subst P (sym x) (at-term s r f d.one ts d.is d.arity (of-declared IsFunctionName d k.0) (terms-back s r n ts p.1 l k.1))
 
-  terms-back : (s : Scope) → Ready s → (n : ℕ) (ts : Tms) → fits_terms (signature_of s.declared).functions n (length s.binders) ts ≡ true → are_live s.vars ts ≡ true → AllTerms s (shapes_of (named_all s ts)) ts
-  terms-back s r n none h l = tt
-  terms-back s r n (arg t ts) h l =
+  terms-back : (s : Scope) → Ready s → (n : ℕ) (ts : Tms) → fits_terms (signature_of s.declared).functions n (length s.binders) ts ≡ true → are_live s.vars ts ≡ true → EachFunctions IsFunctionName s.declared ts
+      → AllTerms s (shapes_of (named_all s ts)) ts
+  terms-back s r n none h l k = tt
+  terms-back s r n (arg t ts) h l k =
       let p = and_parts _ _ h in
       let q = and_parts _ _ l in
-      (term-back s r n t p.0 q.0, terms-back s r n ts p.1 q.1)
+      (term-back s r n t p.0 q.0 k.0, terms-back s r n ts p.1 q.1 k.1)
 
 -- ---- room for fresh names
 
@@ -478,7 +488,7 @@ has-room s (ex x a) h = (omega (arith, h, some-node a), has-room (under (fresh (
 -- ---- formulas
 
 below-binder : (s : Scope) (y : Name) → Ready s → is_taken (taken s) y ≡ false → Ready (under y s)
-below-binder s y r e = record { apart = apart-under s y r.apart e; differ = r.differ; fit = r.fit }
+below-binder s y r e = record { apart = apart-under s y r.apart e; differ = r.differ }
 
 joined-formula : (s : Scope) (op : Op) (l r : Shape) (a b c : Fm) → sign_sort op ≡ FormulaSort → operand_sort op ≡ FormulaSort → sign_needs s op ≡ Some 2
     → IsFormula s l a → IsFormula s r b → ((x y : Shape) → formula_of s x ≡ a → formula_of s y ≡ b → formula_of s (Binary 0 op x y) ≡ c) → IsFormula s (joined op l r) c
@@ -541,49 +551,49 @@ arrow-formula s a b c d other m k =
     let P : Shape → Type 0 = λ x. IsFormula s x (imp c d) in
     subst P (sym (arrow-other s a b other)) (joined-formula s Implies (shape_of (named_formula s a)) (shape_of (named_formula s b)) c d (imp c d) refl refl refl m k (λ x y e f. ap₂ imp e f))
 
-formula-back : (s : Scope) → Ready s → (n : ℕ) (a : Fm) → fits (signature_of s.declared) n (length s.binders) a ≡ true → is_live_formula s.vars a ≡ true → HasRoom s a
+formula-back : (s : Scope) → Ready s → (n : ℕ) (a : Fm) → fits (signature_of s.declared) n (length s.binders) a ≡ true → is_live_formula s.vars a ≡ true → HasRoom s a → EachSymbol IsFunctionName IsPredicateName s.declared a
     → IsFormula s (shape_of (named_formula s a)) (renamed s a)
-formula-back s r n falsum h l room = record { sorted = refl; head = refl; parts = refl; means = refl }
-formula-back s r n (eq a b) h l room =
+formula-back s r n falsum h l room k = record { sorted = refl; head = refl; parts = refl; means = refl }
+formula-back s r n (eq a b) h l room k =
     let p = and_parts _ _ h in
     let q = and_parts _ _ l in
-    equal-formula s (shape_of (named s a)) (shape_of (named s b)) a b (term-back s r n a p.0 q.0) (term-back s r n b p.1 q.1)
-formula-back s r n (pred p ts) h l room =
+    equal-formula s (shape_of (named s a)) (shape_of (named s b)) a b (term-back s r n a p.0 q.0 k.0) (term-back s r n b p.1 q.1 k.1)
+formula-back s r n (pred p ts) h l room k =
     let q = and_parts _ _ h in
     let d : Told s.declared p (count ts) = told s.declared p (count ts) q.0 in
     let x : name_at (predicate_names s.declared) p ≡ d.one.name = name-get (predicate_names s.declared) p d.one.name (named-predicate s p d.one d.is) in
     let P : Name → Type 0 = λ y. IsFormula s (shape_of (at_arguments y (named_all s ts))) (pred p ts) in
-    subst P (sym x) (at-formula s r p d.one ts d.is d.arity (terms-back s r n ts q.1 l))
-formula-back s r n (and a b) h l room =
+    subst P (sym x) (at-formula s r p d.one ts d.is d.arity (of-told IsPredicateName d k.0) (terms-back s r n ts q.1 l k.1))
+formula-back s r n (and a b) h l room k =
     let p = and_parts _ _ h in
     let q = and_parts _ _ l in
     joined-formula s And (shape_of (named_formula s a)) (shape_of (named_formula s b)) (renamed s a) (renamed s b) (and (renamed s a) (renamed s b)) refl refl refl
-    (formula-back s r n a p.0 q.0 room.0) (formula-back s r n b p.1 q.1 room.1) (λ x y e f. ap₂ and e f)
-formula-back s r n (or a b) h l room =
+    (formula-back s r n a p.0 q.0 room.0 k.0) (formula-back s r n b p.1 q.1 room.1 k.1) (λ x y e f. ap₂ and e f)
+formula-back s r n (or a b) h l room k =
     let p = and_parts _ _ h in
     let q = and_parts _ _ l in
     joined-formula s Or (shape_of (named_formula s a)) (shape_of (named_formula s b)) (renamed s a) (renamed s b) (or (renamed s a) (renamed s b)) refl refl refl
-    (formula-back s r n a p.0 q.0 room.0) (formula-back s r n b p.1 q.1 room.1) (λ x y e f. ap₂ or e f)
-formula-back s r n (imp a falsum) h l room =
+    (formula-back s r n a p.0 q.0 room.0 k.0) (formula-back s r n b p.1 q.1 room.1 k.1) (λ x y e f. ap₂ or e f)
+formula-back s r n (imp a falsum) h l room k =
     let p = and_parts _ _ h in
     let q = and_parts _ _ l in
-    negated-formula s (shape_of (named_formula s a)) (renamed s a) (formula-back s r n a p.0 q.0 room.0)
-formula-back s r n (imp a b) h l room =
+    negated-formula s (shape_of (named_formula s a)) (renamed s a) (formula-back s r n a p.0 q.0 room.0 k.0)
+formula-back s r n (imp a b) h l room k =
     let p = and_parts _ _ h in
     let q = and_parts _ _ l in
-    arrow-formula s a b (renamed s a) (renamed s b) (λ e. cc) (formula-back s r n a p.0 q.0 room.0) (formula-back s r n b p.1 q.1 room.1)
-formula-back s r n (all x a) h l room =
+    arrow-formula s a b (renamed s a) (renamed s b) (λ e. cc) (formula-back s r n a p.0 q.0 room.0 k.0) (formula-back s r n b p.1 q.1 room.1 k.1)
+formula-back s r n (all x a) h l room k =
     let y : Name = fresh (taken s) x in
     let m : IsFormula (under y s) (shape_of (named_formula (under y s) a)) (renamed (under y s) a) =
-    formula-back (under y s) (below-binder s y r ((fresh-law (taken s) x room.0).free)) n a (deeper h) l room.1 in
+    formula-back (under y s) (below-binder s y r ((fresh-law (taken s) x room.0).free)) n a (deeper h) l room.1 k in
     record { sorted = refl; head = refl; parts = formula-faultless (under y s) (shape_of (named_formula (under y s) a)) (renamed (under y s) a) m; means = ap (all y) m.means }
   where
     deeper : fits (signature_of s.declared) n (length s.binders + 1) a ≡ true → fits (signature_of s.declared) n (suc (length s.binders)) a ≡ true
     deeper e = let k : length s.binders + 1 ≡ suc (length s.binders) = omega arith in ap (λ d. fits (signature_of s.declared) n d a) (sym k) ∙ e
-formula-back s r n (ex x a) h l room =
+formula-back s r n (ex x a) h l room k =
     let y : Name = fresh (taken s) x in
     let m : IsFormula (under y s) (shape_of (named_formula (under y s) a)) (renamed (under y s) a) =
-    formula-back (under y s) (below-binder s y r ((fresh-law (taken s) x room.0).free)) n a (deeper h) l room.1 in
+    formula-back (under y s) (below-binder s y r ((fresh-law (taken s) x room.0).free)) n a (deeper h) l room.1 k in
     record { sorted = refl; head = refl; parts = formula-faultless (under y s) (shape_of (named_formula (under y s) a)) (renamed (under y s) a) m; means = ap (ex y) m.means }
   where
     deeper : fits (signature_of s.declared) n (length s.binders + 1) a ≡ true → fits (signature_of s.declared) n (suc (length s.binders)) a ≡ true
@@ -615,23 +625,19 @@ same-renamed s (ex x a) = same-renamed (under (fresh (taken s) x) s) a
 
 -- ---- the laws
 
-all-second : (xs ys : List Name) → AllDiffer (xs ++ ys) → AllDiffer ys
-all-second [] ys h = h
-all-second (x ∷ xs) ys h = all-second xs ys h.1
-
-ready : (vars : List (Option Name)) (d : Declarations) → AllDiffer (live vars ++ declared_names d) → AreNamed d → Ready (outermost vars d)
-ready vars d h k = record { apart = apart-outermost vars d h; differ = all-second (live vars) (declared_names d) h; fit = k }
+ready : (vars : List (Option Name)) (d : Declarations) → AreDeclared d → LiveDiffer vars d → Ready (outermost vars d)
+ready vars d h k = record { apart = apart-outermost vars d (all-differ vars d h k); differ = declared-differ d h }
 
 pub term-back-law : TermBackLaw
-term-back-law vars d t c =
+term-back-law vars d t h c =
     let s : Scope = outermost vars d in
-    let m : IsTerm s (shape_of (named s t)) t = term-back s (ready vars d c.names.differ c.names.named) (length vars) t c.fitting c.living in
+    let m : IsTerm s (shape_of (named s t)) t = term-back s (ready vars d h c.live) (length vars) t c.fitting c.living c.named in
     record { shape = (printing-law (named s t)).shape; faultless = term-faultless s (shape_of (named s t)) t m; means = m.means }
 
 pub back-law : BackLaw
-back-law vars d a c =
+back-law vars d a h c =
     let s : Scope = outermost vars d in
-    let m : IsFormula s (shape_of (named_formula s a)) (renamed s a) = formula-back s (ready vars d c.names.differ c.names.named) (length vars) a c.fitting c.living (has-room s a c.small) in
+    let m : IsFormula s (shape_of (named_formula s a)) (renamed s a) = formula-back s (ready vars d h c.live) (length vars) a c.fitting c.living (has-room s a c.small) c.named in
     record {
       shape = (printing-law (named_formula s a)).shape;
       faultless = formula-faultless s (shape_of (named_formula s a)) (renamed s a) m;

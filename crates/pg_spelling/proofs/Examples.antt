@@ -1,24 +1,28 @@
--- What the laws of printed texts ask can be met: ∀ x, x + 0 = x; a binder that a variable's name makes fresh; a number and ≤.
-use Rattle.std.proofs.Common.{◌≡◌, ℕ, zero, suc, true, List, [], ◌∷◌, codes, sym, refl, subst, arith}
-use Rattle.std.specs.Prelude.{Some, slice_get}
+-- What the laws of printing ask can be met: ∀ x, x + 0 = x; a binder that a variable's name makes fresh; a number and ≤; 0 = 0
+-- where ^ has one parameter but does not occur.
+use Rattle.std.proofs.Common.{◌≡◌, ℕ, zero, suc, ◌≤◌, List, [], ◌∷◌, codes, sym, refl, subst, arith}
+use Rattle.std.specs.Prelude.{true, Some, slice_get, take}
 use Rattle.std.specs.Str.{chars, encode_utf8_all, all_scalars}
 use Rattle.std.proofs.lemmas.Str.{chars-encodes}
 use Rattle.pg_base.specs.declared.token.TokenKind.TheVariants as kind
 use Rattle.pg_base.specs.Layout.{IsToken}
 use Rattle.pg_logic.specs.Tree.{free, bound, nought, succ, app, none, arg, Fm, eq, pred, all, ex}
-use Rattle.pg_logic.specs.Declarations.{Name, by_recursion, by_term, Declarations}
+use Rattle.pg_logic.specs.Declarations.{Name, by_recursion, by_term, Declarations, AreDeclared, HasParameters, arity_of, signature_of}
+use Rattle.pg_logic.specs.Signature.{fits, FitsFunction}
 use Rattle.pg_grammar.specs.Printing.{shape_of}
 use Rattle.pg_meaning.specs.Scope.{outermost}
 use Rattle.pg_spelling.specs.Named.{named_formula}
+use Rattle.pg_spelling.specs.Back.{CanReadTerm, ReadsBack}
 use Rattle.pg_spelling.specs.TextBack.{IsNameToken, IsNumberToken, IsTextOf, CanWriteFormula}
+use Rattle.pg_spelling.proofs.Back.{back-law}
 use Rattle.pg_spelling.proofs.TextBack.{text-law}
 
--- what holds of one holds of each of a list of one
-of-one : {X : Type 0} (P : X → Type 0) (x : X) → P x → (k : ℕ) (y : X) → slice_get (x ∷ []) k ≡ Some y → P y
-of-one P x h zero y e = let same : x ≡ y = cc in subst P same h
+-- what holds of one, at place 0, holds of each of a list of one
+of-one : {X : Type 0} (P : ℕ → X → Type 0) (x : X) → P 0 x → (k : ℕ) (y : X) → slice_get (x ∷ []) k ≡ Some y → P k y
+of-one P x h zero y e = let same : x ≡ y = cc in subst (P 0) same h
 of-one P x h (suc k) y e = absurd cc
 
-of-none : {X : Type 0} (P : X → Type 0) (k : ℕ) (y : X) → slice_get [] k ≡ Some y → P y
+of-none : {X : Type 0} (P : ℕ → X → Type 0) (k : ℕ) (y : X) → slice_get [] k ≡ Some y → P k y
 of-none P k y e = absurd cc
 
 -- the one live name
@@ -52,20 +56,38 @@ one-token = ((codes "1", (refl, refl)), subst (λ x. IsToken kind.Number x []) (
 abbrev pub sums : Declarations
 sums = record { functions = by_recursion (codes "+") 2 (codes "n" ∷ codes "m" ∷ []) (free 0) (succ (free 2)) (codes "add_zero") (codes "add_succ") ∷ []; predicates = [] }
 
+pub sums-declared : AreDeclared sums
+sums-declared = record {
+  declared = record {
+    functions = of-one (λ k f. FitsFunction (take k (signature_of sums).functions) f) _ (omega arith, refl, refl);
+    predicates = of-none _;
+  };
+  names_differ = refl;
+  parameters = of-one (λ _ f. HasParameters f × (arity_of f ≤ 4)) _ ((omega arith, refl), omega arith);
+  predicate_arities = of-none _;
+  function_room = omega arith;
+  predicate_room = omega arith;
+}
+
 abbrev pub add_zero : Fm
 add_zero = all (codes "x") (eq (app 0 (arg (bound 0) (arg nought none))) (bound 0))
 
 pub add_zero-writes : CanWriteFormula [] sums add_zero
 add_zero-writes = record {
   reads = record {
-    names = record { differ = (refl, tt); named = record { functions = of-one _ _ refl; predicates = of-none _ } };
+    live = record { differ = tt; undeclared = tt };
+    named = ((refl, (tt, (tt, tt))), tt);
     fitting = refl;
     living = refl;
     small = omega arith;
   };
-  names = record { live = λ i x e. absurd cc; functions = of-one _ _ tt; predicates = of-none _ };
+  live = λ i x e. absurd cc;
+  texts = ((tt, (tt, (tt, tt))), tt);
   binders = (x-token, omega arith, tt);
 }
+
+pub add_zero-back : ReadsBack (outermost [] sums) add_zero
+add_zero-back = back-law [] sums add_zero sums-declared add_zero-writes.reads
 
 pub add_zero-text : IsTextOf (shape_of (named_formula (outermost [] sums) add_zero)) (encode_utf8_all (codes "∀ x, x + 0 = x"))
 unfolding lib.Utf8.encode
@@ -80,14 +102,19 @@ pub alpha-writes : CanWriteFormula (Some alpha ∷ []) sums equals_alpha
 unfolding Rattle.std.specs.Fmt.digits
 alpha-writes = record {
   reads = record {
-    names = record { differ = (refl, (refl, tt)); named = record { functions = of-one _ _ refl; predicates = of-none _ } };
+    live = record { differ = (refl, tt); undeclared = (refl, tt) };
+    named = (tt, tt);
     fitting = refl;
     living = refl;
     small = omega arith;
   };
-  names = record { live = of-name _ _ (alpha-token, refl); functions = of-one _ _ tt; predicates = of-none _ };
+  live = of-name _ _ (alpha-token, refl);
+  texts = (tt, tt);
   binders = (alpha-token, omega arith, tt);
 }
+
+pub alpha-back : ReadsBack (outermost (Some alpha ∷ []) sums) equals_alpha
+alpha-back = back-law (Some alpha ∷ []) sums equals_alpha sums-declared alpha-writes.reads
 
 pub alpha-text : IsTextOf (shape_of (named_formula (outermost (Some alpha ∷ []) sums) equals_alpha)) (encode_utf8_all (codes "∃ α1, α1 = α"))
 unfolding lib.Utf8.encode Rattle.std.specs.Fmt.digits
@@ -101,21 +128,85 @@ orders = record {
   predicates = record { name = 226 ∷ 137 ∷ 164 ∷ []; arity = 2; body = eq (free 0) (free 1) } ∷ [];
 }
 
+pub orders-declared : AreDeclared orders
+orders-declared = record {
+  declared = record {
+    functions = of-one (λ k f. FitsFunction (take k (signature_of orders).functions) f) _ refl;
+    predicates = of-one (λ k p. fits (record { functions = (signature_of orders).functions; predicates = take k (signature_of orders).predicates }) p.arity 0 p.body ≡ true) _ refl;
+  };
+  names_differ = refl;
+  parameters = of-one (λ _ f. HasParameters f × (arity_of f ≤ 4)) _ (tt, omega arith);
+  predicate_arities = of-one (λ _ p. p.arity ≤ 4) _ (omega arith);
+  function_room = omega arith;
+  predicate_room = omega arith;
+}
+
 abbrev pub one_at_most : Fm
 one_at_most = pred 0 (arg (app 0 none) (arg (free 0) none))
 
 pub one-writes : CanWriteFormula (Some (codes "x") ∷ []) orders one_at_most
 one-writes = record {
   reads = record {
-    names = record { differ = (refl, (refl, (refl, tt))); named = record { functions = of-one _ _ (refl, refl); predicates = of-one _ _ refl } };
+    live = record { differ = (refl, tt); undeclared = (refl, tt) };
+    named = (refl, (((refl, refl), tt), (tt, tt)));
     fitting = refl;
     living = refl;
     small = omega arith;
   };
-  names = record { live = of-name _ _ (x-token, refl); functions = of-one _ _ one-token; predicates = of-one _ _ tt };
+  live = of-name _ _ (x-token, refl);
+  texts = (tt, ((one-token, tt), (tt, tt)));
   binders = tt;
 }
+
+pub one-back : ReadsBack (outermost (Some (codes "x") ∷ []) orders) one_at_most
+one-back = back-law (Some (codes "x") ∷ []) orders one_at_most orders-declared one-writes.reads
 
 pub one-text : IsTextOf (shape_of (named_formula (outermost (Some (codes "x") ∷ []) orders) one_at_most)) (encode_utf8_all (codes "1 ≤ x"))
 unfolding lib.Utf8.encode
 one-text = text-law (Some (codes "x") ∷ []) orders one_at_most one-writes
+
+-- ---- 0 = 0, where ^ has one parameter but does not occur
+
+abbrev raises : Declarations
+raises = record { functions = by_recursion (codes "^") 1 (codes "n" ∷ []) nought (free 0) (codes "raise_zero") (codes "raise_succ") ∷ []; predicates = [] }
+
+pub raises-declared : AreDeclared raises
+raises-declared = record {
+  declared = record {
+    functions = of-one (λ k f. FitsFunction (take k (signature_of raises).functions) f) _ (omega arith, refl, refl);
+    predicates = of-none _;
+  };
+  names_differ = refl;
+  parameters = of-one (λ _ f. HasParameters f × (arity_of f ≤ 4)) _ ((omega arith, refl), omega arith);
+  predicate_arities = of-none _;
+  function_room = omega arith;
+  predicate_room = omega arith;
+}
+
+abbrev zero_is_zero : Fm
+zero_is_zero = eq nought nought
+
+pub zero-writes : CanWriteFormula [] raises zero_is_zero
+zero-writes = record {
+  reads = record {
+    live = record { differ = tt; undeclared = tt };
+    named = (tt, tt);
+    fitting = refl;
+    living = refl;
+    small = omega arith;
+  };
+  live = λ i x e. absurd cc;
+  texts = (tt, tt);
+  binders = tt;
+}
+
+pub zero-back : ReadsBack (outermost [] raises) zero_is_zero
+zero-back = back-law [] raises zero_is_zero raises-declared zero-writes.reads
+
+pub zero-text : IsTextOf (shape_of (named_formula (outermost [] raises) zero_is_zero)) (encode_utf8_all (codes "0 = 0"))
+unfolding lib.Utf8.encode
+zero-text = text-law [] raises zero_is_zero zero-writes
+
+-- the term with ^ before its one argument is left out
+pub raised-out : CanReadTerm [] raises (app 0 (arg nought none)) → ⊥
+raised-out h = absurd (omega (arith, h.named.0))

@@ -1,5 +1,6 @@
 pub mod Fresh
 pub mod Places
+pub mod Differ
 pub mod Back
 pub mod Unplaced
 pub mod Lexed

@@ -19,10 +19,11 @@ use Rattle.pg_meaning.specs.Live.{is_named, is_live, are_live, is_live_formula}
 use Rattle.pg_spelling.specs.Fresh.{fresh}
 use Rattle.pg_spelling.specs.Named.{under, function_names, predicate_names, taken, name_at, live_name, sign_named, begins_with_digit, between, at_arguments, named, named_all, named_formula}
 use Rattle.pg_spelling.specs.Written.{op_text, quantifier_text, written}
-use Rattle.pg_spelling.specs.Back.{CanName, CanTell, AreNamed}
+use Rattle.pg_spelling.specs.Occurring.{EachFunction, EachFunctions, EachSymbol}
+use Rattle.pg_spelling.specs.Back.{CanName, CanTell, IsFunctionName, IsPredicateName}
 use Rattle.pg_spelling.specs.Placed.{placed}
-use Rattle.pg_spelling.specs.TextBack.{IsNumberToken, IsFreeName, Stops, IsDeclaredText, AreWritable, AreBinders, IsTextOf, TermTextLaw, TextLaw}
-use Rattle.pg_spelling.proofs.Back.{Declared, declared, Told, told, name-get, named-function, named-predicate, HasRoom, has-room}
+use Rattle.pg_spelling.specs.TextBack.{IsNumberToken, IsFreeName, Stops, IsDeclaredText, IsFunctionText, IsPredicateText, AreFree, AreBinders, IsTextOf, TermTextLaw, TextLaw}
+use Rattle.pg_spelling.proofs.Back.{Declared, declared, of-declared, Told, told, of-told, name-get, named-function, named-predicate, HasRoom, has-room}
 use Rattle.pg_spelling.proofs.Lexed.{Goes, goes-then, goes-to, goes-free, goes-number, goes-word, goes-sign, goes-blank, goes-open, goes-close}
 use Rattle.pg_spelling.proofs.FreshText.{fresh-name-law}
 
@@ -320,8 +321,7 @@ mutual
 -- the names of a place are texts of tokens
 record Ready (s : Scope) : Type 0 where
   binders : (i : ℕ) → i < length s.binders → IsFreeName (name_at s.binders i)
-  writable : AreWritable s.vars s.declared
-  allowed : AreNamed s.declared
+  live : AreFree s.vars
 
 -- a sign has two arguments, a number none
 abbrev Suits : Option Join → Bool → ℕ → Type 0
@@ -392,43 +392,46 @@ zero-token = ((codes "0", (refl, refl)), subst (λ cs. IsToken kind.Number cs []
 free-texts : (s : Scope) → Ready s → (i : ℕ) (o : Option (Option Name)) → slice_get s.vars i ≡ o → is_named o ≡ true → IsFreeName (live_name o)
 free-texts s r i None e h = absurd (false≢true h)
 free-texts s r i (Some None) e h = absurd (false≢true h)
-free-texts s r i (Some (Some x)) e h = r.writable.live i x e
+free-texts s r i (Some (Some x)) e h = r.live i x e
 
-function-texts : (s : Scope) → Ready s → (f : ℕ) (ts : Tms) → Declared s.declared f (count ts) → TreesTexts (named_all s ts) → TreeTexts (at_arguments (name_at (function_names s.declared) f) (named_all s ts))
-function-texts s r f ts d each =
+function-texts : (s : Scope) (f : ℕ) (ts : Tms) → (d : Declared s.declared f (count ts)) → IsFunctionName d.one → IsFunctionText d.one → TreesTexts (named_all s ts) → TreeTexts (at_arguments (name_at (function_names s.declared) f) (named_all s ts))
+function-texts s f ts d allowed text each =
     let one : Name = name_of d.one in
     let x : name_at (function_names s.declared) f ≡ one = name-get (function_names s.declared) f one (named-function s f d.one d.is) in
-    let can : Suits (sign_named one) (begins_with_digit one) (arity_of d.one) = name-suits (sign_named one) (begins_with_digit one) one (arity_of d.one) (r.allowed.functions f d.one d.is) in
+    let can : Suits (sign_named one) (begins_with_digit one) (arity_of d.one) = name-suits (sign_named one) (begins_with_digit one) one (arity_of d.one) allowed in
     subst (λ y. TreeTexts (at_arguments y (named_all s ts))) (sym x)
-    (at-texts one (named_all s ts) (subst (Suits (sign_named one) (begins_with_digit one)) (d.arity ∙ sym (count-named s ts)) can) (r.writable.functions f d.one d.is) each)
+    (at-texts one (named_all s ts) (subst (Suits (sign_named one) (begins_with_digit one)) (d.arity ∙ sym (count-named s ts)) can) text each)
 
-predicate-texts : (s : Scope) → Ready s → (p : ℕ) (ts : Tms) → Told s.declared p (count ts) → TreesTexts (named_all s ts) → TreeTexts (at_arguments (name_at (predicate_names s.declared) p) (named_all s ts))
-predicate-texts s r p ts d each =
+predicate-texts : (s : Scope) (p : ℕ) (ts : Tms) → (d : Told s.declared p (count ts)) → IsPredicateName d.one → IsPredicateText d.one → TreesTexts (named_all s ts) → TreeTexts (at_arguments (name_at (predicate_names s.declared) p) (named_all s ts))
+predicate-texts s p ts d allowed text each =
     let one : Name = d.one.name in
     let x : name_at (predicate_names s.declared) p ≡ one = name-get (predicate_names s.declared) p one (named-predicate s p d.one d.is) in
-    let can : Suits (sign_named one) (begins_with_digit one) d.one.arity = tell-suits (sign_named one) (begins_with_digit one) d.one.arity (r.allowed.predicates p d.one d.is) in
+    let can : Suits (sign_named one) (begins_with_digit one) d.one.arity = tell-suits (sign_named one) (begins_with_digit one) d.one.arity allowed in
     subst (λ y. TreeTexts (at_arguments y (named_all s ts))) (sym x)
-    (at-texts one (named_all s ts) (subst (Suits (sign_named one) (begins_with_digit one)) (d.arity ∙ sym (count-named s ts)) can) (r.writable.predicates p d.one d.is) each)
+    (at-texts one (named_all s ts) (subst (Suits (sign_named one) (begins_with_digit one)) (d.arity ∙ sym (count-named s ts)) can) text each)
 
 mutual
-  term-texts : (s : Scope) → Ready s → (n : ℕ) (t : Tm) → fits_term (signature_of s.declared).functions n (length s.binders) t ≡ true → is_live s.vars t ≡ true → TreeTexts (named s t)
-  term-texts s r n (free i) h l = (free-texts s r i (slice_get s.vars i) refl l, tt)
-  term-texts s r n (bound i) h l = (r.binders i (ltb-true _ _ h), tt)
-  term-texts s r n nought h l = zero-token
-  term-texts s r n (succ t) h l = (term-texts s r n t h l, tt)
-  term-texts s r n (app f ts) h l =
+  term-texts : (s : Scope) → Ready s → (n : ℕ) (t : Tm) → fits_term (signature_of s.declared).functions n (length s.binders) t ≡ true → is_live s.vars t ≡ true → EachFunction IsFunctionName s.declared t → EachFunction IsFunctionText s.declared t
+      → TreeTexts (named s t)
+  term-texts s r n (free i) h l k e = (free-texts s r i (slice_get s.vars i) refl l, tt)
+  term-texts s r n (bound i) h l k e = (r.binders i (ltb-true _ _ h), tt)
+  term-texts s r n nought h l k e = zero-token
+  term-texts s r n (succ t) h l k e = (term-texts s r n t h l k e, tt)
+  term-texts s r n (app f ts) h l k e =
       let p = and_parts _ _ h in
-      function-texts s r f ts (declared s.declared f (count ts) p.0) (terms-texts s r n ts p.1 l)
+      let d : Declared s.declared f (count ts) = declared s.declared f (count ts) p.0 in
+      function-texts s f ts d (of-declared IsFunctionName d k.0) (of-declared IsFunctionText d e.0) (terms-texts s r n ts p.1 l k.1 e.1)
 
-  terms-texts : (s : Scope) → Ready s → (n : ℕ) (ts : Tms) → fits_terms (signature_of s.declared).functions n (length s.binders) ts ≡ true → are_live s.vars ts ≡ true → TreesTexts (named_all s ts)
-  terms-texts s r n none h l = tt
-  terms-texts s r n (arg t ts) h l =
+  terms-texts : (s : Scope) → Ready s → (n : ℕ) (ts : Tms) → fits_terms (signature_of s.declared).functions n (length s.binders) ts ≡ true → are_live s.vars ts ≡ true → EachFunctions IsFunctionName s.declared ts → EachFunctions IsFunctionText s.declared ts
+      → TreesTexts (named_all s ts)
+  terms-texts s r n none h l k e = tt
+  terms-texts s r n (arg t ts) h l k e =
       let p = and_parts _ _ h in
       let q = and_parts _ _ l in
-      (term-texts s r n t p.0 q.0, terms-texts s r n ts p.1 q.1)
+      (term-texts s r n t p.0 q.0 k.0 e.0, terms-texts s r n ts p.1 q.1 k.1 e.1)
 
 below : (s : Scope) (y : Name) → Ready s → IsFreeName y → Ready (under y s)
-below s y r token = record { binders = λ i lt. at i lt; writable = r.writable; allowed = r.allowed }
+below s y r token = record { binders = λ i lt. at i lt; live = r.live }
   where
     at : (i : ℕ) → i < length (y ∷ s.binders) → IsFreeName (name_at (y ∷ s.binders) i)
     at zero lt = token
@@ -437,48 +440,50 @@ below s y r token = record { binders = λ i lt. at i lt; writable = r.writable; 
 deeper : (s : Scope) (n : ℕ) (a : Fm) → fits (signature_of s.declared) n (length s.binders + 1) a ≡ true → fits (signature_of s.declared) n (suc (length s.binders)) a ≡ true
 deeper s n a e = let k : length s.binders + 1 ≡ suc (length s.binders) = omega arith in ap (λ d. fits (signature_of s.declared) n d a) (sym k) ∙ e
 
-formula-texts : (s : Scope) → Ready s → (n : ℕ) (a : Fm) → fits (signature_of s.declared) n (length s.binders) a ≡ true → is_live_formula s.vars a ≡ true → HasRoom s a → AreBinders s a → TreeTexts (named_formula s a)
-formula-texts s r n falsum h l room b = tt
-formula-texts s r n (eq t u) h l room b =
+formula-texts : (s : Scope) → Ready s → (n : ℕ) (a : Fm) → fits (signature_of s.declared) n (length s.binders) a ≡ true → is_live_formula s.vars a ≡ true → HasRoom s a → AreBinders s a → EachSymbol IsFunctionName IsPredicateName s.declared a → EachSymbol IsFunctionText IsPredicateText s.declared a
+    → TreeTexts (named_formula s a)
+formula-texts s r n falsum h l room b k e = tt
+formula-texts s r n (eq t u) h l room b k e =
     let p = and_parts _ _ h in
     let q = and_parts _ _ l in
-    (term-texts s r n t p.0 q.0, term-texts s r n u p.1 q.1)
-formula-texts s r n (pred p ts) h l room b =
+    (term-texts s r n t p.0 q.0 k.0 e.0, term-texts s r n u p.1 q.1 k.1 e.1)
+formula-texts s r n (pred p ts) h l room b k e =
     let q = and_parts _ _ h in
-    predicate-texts s r p ts (told s.declared p (count ts) q.0) (terms-texts s r n ts q.1 l)
-formula-texts s r n (and c d) h l room b =
+    let d : Told s.declared p (count ts) = told s.declared p (count ts) q.0 in
+    predicate-texts s p ts d (of-told IsPredicateName d k.0) (of-told IsPredicateText d e.0) (terms-texts s r n ts q.1 l k.1 e.1)
+formula-texts s r n (and c d) h l room b k e =
     let p = and_parts _ _ h in
     let q = and_parts _ _ l in
-    (formula-texts s r n c p.0 q.0 room.0 b.0, formula-texts s r n d p.1 q.1 room.1 b.1)
-formula-texts s r n (or c d) h l room b =
+    (formula-texts s r n c p.0 q.0 room.0 b.0 k.0 e.0, formula-texts s r n d p.1 q.1 room.1 b.1 k.1 e.1)
+formula-texts s r n (or c d) h l room b k e =
     let p = and_parts _ _ h in
     let q = and_parts _ _ l in
-    (formula-texts s r n c p.0 q.0 room.0 b.0, formula-texts s r n d p.1 q.1 room.1 b.1)
-formula-texts s r n (imp c d) h l room b =
+    (formula-texts s r n c p.0 q.0 room.0 b.0 k.0 e.0, formula-texts s r n d p.1 q.1 room.1 b.1 k.1 e.1)
+formula-texts s r n (imp c d) h l room b k e =
     let p = and_parts _ _ h in
     let q = and_parts _ _ l in
-    (formula-texts s r n c p.0 q.0 room.0 b.0, formula-texts s r n d p.1 q.1 room.1 b.1)
-formula-texts s r n (all x a) h l room b =
+    (formula-texts s r n c p.0 q.0 room.0 b.0 k.0 e.0, formula-texts s r n d p.1 q.1 room.1 b.1 k.1 e.1)
+formula-texts s r n (all x a) h l room b k e =
     let y : Name = fresh (taken s) x in
     let token : IsFreeName y = fresh-name-law (taken s) x room.0 b.0 b.1 in
-    (token, formula-texts (under y s) (below s y r token) n a (deeper s n a h) l room.1 b.2)
-formula-texts s r n (ex x a) h l room b =
+    (token, formula-texts (under y s) (below s y r token) n a (deeper s n a h) l room.1 b.2 k e)
+formula-texts s r n (ex x a) h l room b k e =
     let y : Name = fresh (taken s) x in
     let token : IsFreeName y = fresh-name-law (taken s) x room.0 b.0 b.1 in
-    (token, formula-texts (under y s) (below s y r token) n a (deeper s n a h) l room.1 b.2)
+    (token, formula-texts (under y s) (below s y r token) n a (deeper s n a h) l room.1 b.2 k e)
 
 -- ---- the laws
 
-outer : (vars : List (Option Name)) (d : Declarations) → AreWritable vars d → AreNamed d → Ready (outermost vars d)
-outer vars d w k = record { binders = λ i lt. absurd (omega (arith, lt)); writable = w; allowed = k }
+outer : (vars : List (Option Name)) (d : Declarations) → AreFree vars → Ready (outermost vars d)
+outer vars d h = record { binders = λ i lt. absurd (omega (arith, lt)); live = h }
 
 pub term-text-law : TermTextLaw
 term-text-law vars d t c =
     let s : Scope = outermost vars d in
-    text-of (shape_of (named s t)) (shape-texts (named s t) (term-texts s (outer vars d c.names c.reads.names.named) (length vars) t c.reads.fitting c.reads.living))
+    text-of (shape_of (named s t)) (shape-texts (named s t) (term-texts s (outer vars d c.live) (length vars) t c.reads.fitting c.reads.living c.reads.named c.texts))
 
 pub text-law : TextLaw
 text-law vars d a c =
     let s : Scope = outermost vars d in
     text-of (shape_of (named_formula s a))
-    (shape-texts (named_formula s a) (formula-texts s (outer vars d c.names c.reads.names.named) (length vars) a c.reads.fitting c.reads.living (has-room s a c.reads.small) c.binders))
+    (shape-texts (named_formula s a) (formula-texts s (outer vars d c.live) (length vars) a c.reads.fitting c.reads.living (has-room s a c.reads.small) c.binders c.reads.named c.texts))

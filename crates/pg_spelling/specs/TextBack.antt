@@ -17,6 +17,7 @@ use Rattle.pg_grammar.specs.Printing.{Join, shape_of}
 use Rattle.pg_meaning.specs.Scope.{Scope, outermost}
 use Rattle.pg_spelling.specs.Fresh.{fresh}
 use Rattle.pg_spelling.specs.Named.{under, taken, sign_named, begins_with_digit, named, named_formula}
+use Rattle.pg_spelling.specs.Occurring.{EachFunction, EachSymbol}
 use Rattle.pg_spelling.specs.Written.{printed, printed_formula}
 use Rattle.pg_spelling.specs.Back.{CanReadTerm, CanReadFormula}
 use Rattle.pg_spelling.specs.Placed.{placed}
@@ -65,11 +66,16 @@ IsDeclaredText (Some join) numeral name = Unit {0}
 IsDeclaredText None true name = IsNumberToken name
 IsDeclaredText None false name = IsFreeName name
 
--- the live names, and the names of what is declared, are texts of tokens
-pub record AreWritable (vars : List (Option Name)) (d : Declarations) : Type 0 where
-  pub live : (i : ℕ) (x : Name) → slice_get vars i ≡ Some (Some x) → IsFreeName x
-  pub functions : (k : ℕ) (f : NamedFunction) → slice_get d.functions k ≡ Some f → IsDeclaredText (sign_named (name_of f)) (begins_with_digit (name_of f)) (name_of f)
-  pub predicates : (k : ℕ) (p : NamedPredicate) → slice_get d.predicates k ≡ Some p → IsDeclaredText (sign_named p.name) (begins_with_digit p.name) p.name
+-- so of a function, and of a predicate
+abbrev pub IsFunctionText : NamedFunction → Type 0
+IsFunctionText f = IsDeclaredText (sign_named (name_of f)) (begins_with_digit (name_of f)) (name_of f)
+
+abbrev pub IsPredicateText : NamedPredicate → Type 0
+IsPredicateText p = IsDeclaredText (sign_named p.name) (begins_with_digit p.name) p.name
+
+-- each live name is a name token's text that isn't reserved
+abbrev pub AreFree : List (Option Name) → Type 0
+AreFree vars = (i : ℕ) (x : Name) → slice_get vars i ≡ Some (Some x) → IsFreeName x
 
 -- Each binder's name is a name token's text, and its printed name has at most 48 bytes.
 abbrev pub AreBinders : Scope → Fm → Type 0
@@ -89,13 +95,17 @@ pub record IsTextOf (s : Shape) (text : List ℕ) : Type 0 where
   pub faultless : (lexed text).fault ≡ None
   pub symbols : map symbol (lexed text).words ≡ spelled (placed 0 s)
 
+-- What writing asks besides: the live names, those of the tree's functions, constants and predicates, and those of its binders
+-- are texts of tokens.
 pub record CanWriteTerm (vars : List (Option Name)) (d : Declarations) (t : Tm) : Type 0 where
   pub reads : CanReadTerm vars d t
-  pub names : AreWritable vars d
+  pub live : AreFree vars
+  pub texts : EachFunction IsFunctionText d t
 
 pub record CanWriteFormula (vars : List (Option Name)) (d : Declarations) (a : Fm) : Type 0 where
   pub reads : CanReadFormula vars d a
-  pub names : AreWritable vars d
+  pub live : AreFree vars
+  pub texts : EachSymbol IsFunctionText IsPredicateText d a
   pub binders : AreBinders (outermost vars d) a
 
 abbrev pub TermTextLaw : Type 0

@@ -13,13 +13,16 @@ pub fn fresh_law()
     ensures { FreshLaw }
 {}
 
-/// The shape of a printed term means the term, where the live names and the declared names all
-/// differ, and what is declared is named as it may be.
+/// The shape of a printed term means the term, where the term fits and has live variables only, the
+/// live names differ from one another and from the declared names, and each function and constant of
+/// the term is named as it may be. Declared names differ, as those of every signature do.
 pub fn term_back_law()
     ensures { TermBackLaw }
 {}
 
-/// The shape of a printed formula means the same formula, with the names of its binders as printed.
+/// The shape of a printed formula means the same formula, with the names of its binders as printed,
+/// where the same holds of the formula, its predicates included, and names and nodes are fewer than
+/// 2^64.
 pub fn back_law()
     ensures { BackLaw }
 {}
@@ -43,12 +46,13 @@ pub fn fresh_name_law()
 {}
 
 /// The text of a printed term has no fault, and its tokens spell the printed shape, each at its
-/// byte, where each name is the text of a token.
+/// byte, where besides the live names and those of its functions and constants are texts of tokens.
 pub fn term_text_law()
     ensures { TermTextLaw }
 {}
 
-/// The same of a printed formula. A binder's printed name has at most 48 bytes.
+/// The same of a printed formula, its predicates included. A binder's name is the text of a name
+/// token, and its printed name has at most 48 bytes.
 pub fn text_law()
     ensures { TextLaw }
 {}

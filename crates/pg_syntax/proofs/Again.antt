@@ -6,7 +6,7 @@ use Rattle.pg_base.specs.Tokens.{lexed}
 use Rattle.pg_shape.specs.Symbols.{symbol}
 use Rattle.pg_shape.specs.Answers.{limits, Shaped, answer, shape_answer}
 use Rattle.pg_logic.specs.Tree.{Tm, Fm}
-use Rattle.pg_logic.specs.Declarations.{Name, Declarations}
+use Rattle.pg_logic.specs.Declarations.{Name, Declarations, AreDeclared}
 use Rattle.pg_grammar.specs.Shapes.{Shape, IsShape, spelled}
 use Rattle.pg_grammar.specs.Nesting.{depths, AreWithin}
 use Rattle.pg_grammar.specs.Machine.{read}
@@ -43,11 +43,11 @@ read-again s text shape is small end =
 means-again : {X : Type 0} (c : Scope) (want : Sort) (of : Shape → X) (s : Shape) (x : X) → first_fault c want s ≡ None → of s ≡ x → meant c want of (Shaped s) ≡ Read x
 means-again c want of s x none is = ap (λ o. faultless o (of s)) none ∙ ap Read is
 
-pub term-again : (vars : List (Option Name)) (d : Declarations) (t : Tm) (text : List ℕ) → text ≡ printed (outermost vars d) t → TermComesBack vars d t text
-term-again vars d t text e can small =
+pub term-again : (vars : List (Option Name)) (d : Declarations) (t : Tm) (text : List ℕ) → AreDeclared d → text ≡ printed (outermost vars d) t → TermComesBack vars d t text
+term-again vars d t text declared e can small =
     let c : Scope = outermost vars d in
     let s : Shape = shape_of (named c t) in
-    let back = term-back-law vars d t can.reads in
+    let back = term-back-law vars d t declared can.reads in
     let is : IsTextOf s text = subst (IsTextOf s) (sym e) (term-text-law vars d t can) in
     let alike : AreAlike s (placed 0 s) = like-placed s in
     record {
@@ -57,11 +57,11 @@ term-again vars d t text e can small =
           ∙ means-again c TermSort (term_of c) (placed 0 s) t (alike.faultless c TermSort back.faultless) (sym (alike.term c) ∙ back.means);
     }
 
-pub formula-again : (vars : List (Option Name)) (d : Declarations) (a : Fm) (text : List ℕ) → text ≡ printed_formula (outermost vars d) a → FormulaComesBack vars d a text
-formula-again vars d a text e can small =
+pub formula-again : (vars : List (Option Name)) (d : Declarations) (a : Fm) (text : List ℕ) → AreDeclared d → text ≡ printed_formula (outermost vars d) a → FormulaComesBack vars d a text
+formula-again vars d a text declared e can small =
     let c : Scope = outermost vars d in
     let s : Shape = shape_of (named_formula c a) in
-    let back = back-law vars d a can.reads in
+    let back = back-law vars d a declared can.reads in
     let is : IsTextOf s text = subst (IsTextOf s) (sym e) (text-law vars d a can) in
     let alike : AreAlike s (placed 0 s) = like-placed s in
     record {

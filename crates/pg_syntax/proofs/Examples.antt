@@ -7,7 +7,7 @@ use Rattle.pg_shape.specs.Symbols.{symbol}
 use Rattle.pg_grammar.specs.Printing.{shape_of}
 use Rattle.pg_meaning.specs.Scope.{outermost}
 use Rattle.pg_spelling.specs.Named.{named_formula}
-use Rattle.pg_spelling.proofs.Examples.{sums, add_zero, add_zero-writes, add_zero-text}
+use Rattle.pg_spelling.proofs.Examples.{sums, sums-declared, add_zero, add_zero-writes, add_zero-text}
 use Rattle.pg_syntax.specs.ReadBack.{IsWithinLimits, FormulaReadsAgain}
 use Rattle.pg_syntax.proofs.Again.{formula-again}
 
@@ -25,4 +25,4 @@ within-limits =
 
 pub add_zero-again : FormulaReadsAgain [] sums add_zero add_zero_text
 unfolding lib.Utf8.encode
-add_zero-again = formula-again [] sums add_zero add_zero_text refl add_zero-writes within-limits
+add_zero-again = formula-again [] sums add_zero add_zero_text sums-declared refl add_zero-writes within-limits

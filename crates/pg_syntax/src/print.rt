@@ -222,13 +222,22 @@ fn write_bound(
 }
 
 /// The text of a formula: its one printed spelling, with the names of variables by `names`, each
-/// binder's name made fresh, and the least parentheses (docs/LOGIC.md, "Printing"). It is meant for
-/// a formula that fits and uses live names only, where no live name is a declared name or a reserved
-/// word; a number that has no name is printed as nothing. The shape of the text then means the same
-/// formula again. The text itself reads back as that formula, with its binders named as printed,
-/// where besides each name is the text of a token, a binder's printed name has at most 48 bytes, the
-/// text has at most 8,192 tokens, and none is nested more than 100 deep: `tokens_of` gives its tokens
-/// and no fault, and `read_formula` reads them as the formula. It fails only for want of memory.
+/// binder's name made fresh, and the least parentheses (docs/LOGIC.md, "Printing"). A number that
+/// has no name is printed as nothing. It fails only for want of memory.
+///
+/// The shape of the text means the same formula again, its binders named as printed, where
+///
+/// - the formula fits and has live variables only;
+/// - the live names differ from one another and from the declared names;
+/// - each function, constant and predicate of the formula is named as a declaration may name it: by
+///   a name, by a sign with two arguments (`+`, `*`, `^` for a function, `≤`, `<` for a predicate),
+///   or by a number other than 0 for a constant;
+/// - the names that a binder may not have and the nodes of the formula are fewer than 2^64.
+///
+/// The text itself reads back as that formula where besides each name is the text of a token, a
+/// binder's printed name has at most 48 bytes, the text has at most 8,192 tokens, and none is nested
+/// more than 100 deep: `tokens_of` gives its tokens and no fault, and `read_formula` reads them as
+/// the formula.
 pub fn print_formula(
     alloc: Global,
     formula: &Formula,
@@ -239,6 +248,7 @@ pub fn print_formula(
     ensures reads { IfOk result (λ text. CanReadFormula names.now.vars.items (declarations sig.now) (view.formula formula.now) → ReadsBack (outermost names.now.vars.items (declarations sig.now)) (view.formula formula.now)) }
     ensures again { IfOk result (λ text. FormulaComesBack names.now.vars.items (declarations sig.now) (view.formula formula.now) (string_bytes text)) }
 {
+    sig.is_declared();
     let cx = Context { names, sig };
     let p = Printer { alloc, cx: &cx };
     let mut out = String::new(alloc);
@@ -247,9 +257,10 @@ pub fn print_formula(
     Ok(out)
 }
 
-/// The text of a term, likewise. Its shape means the same term again, and the text reads back as that
-/// term where each name is the text of a token, and the text has at most 8,192 tokens, none of which
-/// is nested more than 100 deep.
+/// The text of a term, likewise. Its shape means the same term again where the same holds of the
+/// term; no number of nodes is asked. The text reads back as that term where besides each name is the
+/// text of a token, and the text has at most 8,192 tokens, none of which is nested more than 100
+/// deep.
 pub fn print_term(
     alloc: Global,
     term: &Term,
@@ -260,6 +271,7 @@ pub fn print_term(
     ensures reads { IfOk result (λ text. CanReadTerm names.now.vars.items (declarations sig.now) (view.term term.now) → TermReadsBack (outermost names.now.vars.items (declarations sig.now)) (view.term term.now)) }
     ensures again { IfOk result (λ text. TermComesBack names.now.vars.items (declarations sig.now) (view.term term.now) (string_bytes text)) }
 {
+    sig.is_declared();
     let mut out = String::new(alloc);
     let place = Place {
         context: Context { names, sig },
