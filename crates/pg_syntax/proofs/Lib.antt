@@ -1,10 +1,12 @@
 pub mod Answering
 pub mod Calls
 pub mod Closing
+pub mod FreshNames
 pub mod Joins
 pub mod Lists
 pub mod Places
 pub mod Readable
+pub mod StatementTruth
 pub mod Texts
 pub mod Views
 pub mod Weights
