@@ -1,23 +1,23 @@
 -- Names made fresh are free.
-use Rattle.std.proofs.Common.{◌≡◌, ℕ, ◌+◌, ◌<◌, ◌^◌, ◌||◌, Bool, true, false, List, [], ◌++◌, length, reverse, ap, ◌∙◌, sym, subst}
+use Rattle.std.proofs.Common.{◌≡◌, ◌+◌, ◌<◌, ◌^◌, ◌||◌, true, cond, List, [], ◌++◌, length, reverse, ap, ◌∙◌, sym, subst}
 use Rattle.std.specs.List.{list_any}
 use Rattle.std.specs.Str.{bytes_eq}
-use Rattle.std.proofs.lemmas.Bool.{false≢true}
 use Rattle.std.proofs.lemmas.List.Folds.{list_any-append}
 use Rattle.pg_logic.specs.Declarations.{Name}
 use Rattle.pg_base.specs.Reserved.{is_reserved}
-use Rattle.pg_spelling.specs.Fresh.{is_taken, stem, numbered, fresh, IsNumbered, IsFresh}
+use Rattle.pg_spelling.specs.Fresh.{is_taken, stem, numbered, free_number, fresh, IsNumbered, IsFresh}
 use Rattle.pg_spelling.proofs.Fresh.{fresh-law}
 use Rattle.pg_syntax.proofs.Lists.{any-reverse}
 
--- a name that isn't taken
-pub fresh_itself : (names : List Name) (name made : Name) → is_taken names name ≡ false → made ≡ name → IsFresh names name made
-fresh_itself names name made free e =
-    record { free = ap (is_taken names) e ∙ free; stays = λ h. e; numbered = λ h. absurd (false≢true (sym free ∙ h)) }
-
--- one that is, among fewer than 2^64
-pub fresh_numbered : (names : List Name) (name made : Name) → length names + 1 < 2 ^ 64 → made ≡ fresh names name → IsFresh names name made
+-- what is made fresh among fewer than 2^64 names
+fresh_numbered : (names : List Name) (name made : Name) → length names + 1 < 2 ^ 64 → made ≡ fresh names name → IsFresh names name made
 fresh_numbered names name made room e = subst (IsFresh names name) (sym e) (fresh-law names name room)
+
+pub fresh_by_number : (names : List Name) (name made front : Name) → length names + 1 < 2 ^ 64 → is_taken names name ≡ true → front ≡ stem name
+    → made ≡ numbered front (free_number names front (length names) 1) → IsFresh names name made
+fresh_by_number names name made front room taken is e =
+    fresh_numbered names name made room
+    (e ∙ ap (λ f. numbered f (free_number names f (length names) 1)) is ∙ sym (ap (λ b. cond b (numbered (stem name) (free_number names (stem name) (length names) 1)) name) taken))
 
 numbered_alike : (names others : List Name) (front made : Name) → ((x : Name) → is_taken names x ≡ is_taken others x) → IsNumbered names front made → IsNumbered others front made
 numbered_alike names others front made same n =

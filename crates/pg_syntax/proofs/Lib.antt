@@ -4,7 +4,6 @@ pub mod Closing
 pub mod FreshNames
 pub mod Joins
 pub mod Lists
-pub mod Places
 pub mod Readable
 pub mod StatementTruth
 pub mod Texts

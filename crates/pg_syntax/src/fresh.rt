@@ -92,6 +92,7 @@ fn numbered(alloc: Global, stem: &str, number: usize) -> Result<String, AllocErr
 
 impl Taken<'_> {
     /// Whether a text is one of the names, or a reserved word.
+    #[tactic(auto, using(crate::proofs::Lists::taken_parts))]
     fn has(&self, text: &str) -> bool
         ensures { result ≡ is_taken (taken_names self.now) text.now }
     {
