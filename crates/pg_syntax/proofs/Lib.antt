@@ -3,10 +3,11 @@ pub mod Answering
 pub mod Calls
 pub mod Closing
 mod Examples
+pub mod FreshNames
 pub mod Joins
 pub mod Lists
-pub mod Places
 pub mod Readable
+pub mod StatementTruth
 pub mod Texts
 pub mod Views
 pub mod Weights

@@ -158,6 +158,11 @@ taken_by x b l d p q r e f g =
     ∙ ap (λ o. list_any (bytes_eq x) b || (list_any (bytes_eq x) l || (o || is_reserved x))) g
     ∙ sym (ap (λ o. o || is_reserved x) (any-parts x b l d) ∙ or-moved (list_any (bytes_eq x) b) (list_any (bytes_eq x) l) (list_any (bytes_eq x) d) (is_reserved x))
 
+-- a test of one kind of names after the other
+pub taken_parts : (x : Name) (b l d : List Name)
+    → is_taken (reverse b ++ (l ++ d)) x ≡ (list_any (bytes_eq x) b || (list_any (bytes_eq x) l || (list_any (bytes_eq x) d || is_reserved x)))
+taken_parts x b l d = sym (taken_by x b l d _ _ _ refl refl refl)
+
 pub any-declared : {X Y : Type 0} (v : X → Name) (w : Y → Name) (x : Name) (fs : List X) (ps : List Y) (p q : Bool)
     → p ≡ is_some (position (λ f. bytes_eq x (v f)) fs) → q ≡ is_some (position (λ f. bytes_eq x (w f)) ps) → (p || q) ≡ list_any (bytes_eq x) (map v fs ++ map w ps)
 any-declared v w x fs ps p q e f =

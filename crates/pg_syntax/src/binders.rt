@@ -55,8 +55,8 @@ fn push_brackets(
     Ok(())
 }
 
-#[tactic(auto, using(crate::proofs::Texts::texts_rules))]
 /// The names of a quantifier are put behind the binders around it. It fails only for want of memory.
+#[tactic(auto, using(crate::proofs::Texts::texts_rules))]
 pub fn push_names(
     alloc: Global,
     binders: &mut Items<Name>,

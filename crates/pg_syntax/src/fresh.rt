@@ -3,7 +3,7 @@ ghost use Rattle.std.specs.Prelude.{◌≡◌, ◌≢◌, ◌++◌, [], ◌+◌,
 ghost use Rattle.std.specs.List.{list_any};
 ghost use Rattle.std.specs.Str.{bytes_eq};
 ghost use Rattle.pg_arith.specs.View.{declarations};
-ghost use Rattle.pg_spelling.specs.Fresh.{is_taken, stem, numbered, free_number, fresh};
+ghost use Rattle.pg_spelling.specs.Fresh.{is_taken, stem, numbered, free_number, fresh, IsFresh};
 ghost use Rattle.pg_spelling.specs.Named.{live, declared_names};
 ghost use Rattle.pg_syntax.specs.Places.{taken_names};
 
@@ -53,10 +53,7 @@ fn is_live(vars: &[Option<Name>], text: &str) -> bool
 fn is_declared(sig: &Signature, text: &str) -> bool
     ensures { result ≡ list_any (bytes_eq text.now) (declared_names (declarations sig.now)) }
 {
-    if sig.function_named(text).is_some() {
-        return true;
-    }
-    sig.predicate_named(text).is_some()
+    sig.function_named(text).is_some() || sig.predicate_named(text).is_some()
 }
 
 /// How many variables live.
@@ -66,7 +63,7 @@ fn live_count(vars: &[Option<Name>]) -> usize
 {
     let mut count = 0;
     for var in vars {
-        if let Some(_) = var {
+        if var.is_some() {
             count += 1;
         }
     }
@@ -95,19 +92,14 @@ fn numbered(alloc: Global, stem: &str, number: usize) -> Result<String, AllocErr
 
 impl Taken<'_> {
     /// Whether a text is one of the names, or a reserved word.
+    #[tactic(auto, using(crate::proofs::Lists::taken_parts))]
     fn has(&self, text: &str) -> bool
         ensures { result ≡ is_taken (taken_names self.now) text.now }
     {
-        if is_among(self.binders, text) {
-            return true;
-        }
-        if is_live(self.vars, text) {
-            return true;
-        }
-        if is_declared(self.sig, text) {
-            return true;
-        }
-        is_reserved(text)
+        is_among(self.binders, text)
+            || is_live(self.vars, text)
+            || is_declared(self.sig, text)
+            || is_reserved(text)
     }
 
     /// How many names there are.
@@ -123,6 +115,7 @@ impl Taken<'_> {
 
     /// A stem with the least number from 1 on that makes it free.
     fn first_free(&self, alloc: Global, stem: &str) -> Result<String, AllocError>
+        ensures room { length (taken_names self.now) + 1 < 2 ^ 64 }
         ensures some { IfOk result (λ made. string_bytes made ≢ []) }
         ensures made { IfOk result (λ made. string_bytes made ≡ numbered stem.now (free_number (taken_names self.now) stem.now (length (taken_names self.now)) 1)) }
     {
@@ -138,7 +131,8 @@ impl Taken<'_> {
 
     /// A name made fresh: it stays where it isn't taken.
     pub fn fresh(&self, alloc: Global, name: &Name) -> Result<Name, AllocError>
-        ensures { IfOk result (λ made. made ≡ fresh (taken_names self.now) name.now) }
+        ensures is { IfOk result (λ made. made ≡ fresh (taken_names self.now) name.now) }
+        ensures free { IfOk result (λ made. IsFresh (taken_names self.now) name.now made) }
     {
         if !self.has(name.as_str()) {
             return name.copied(alloc);
@@ -157,7 +151,8 @@ pub fn fresh_name(
     taken: &[Name],
     sig: &Signature,
 ) -> Result<Name, AllocError>
-    ensures { IfOk result (λ made. made ≡ fresh (taken.now ++ declared_names (declarations sig.now)) name.now) }
+    ensures is { IfOk result (λ made. made ≡ fresh (taken.now ++ declared_names (declarations sig.now)) name.now) }
+    ensures free { IfOk result (λ made. IsFresh (taken.now ++ declared_names (declarations sig.now)) name.now made) }
 {
     let taken = Taken {
         binders: taken,

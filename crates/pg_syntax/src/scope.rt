@@ -1,5 +1,5 @@
 // What names, numbers and signs stand for at a place.
-ghost use Rattle.std.specs.Prelude.{◌≡◌, ◌+◌, ◌^◌, ◌<◌, length, option_map, position, reverse, Some, IfSome, if◌then◌else◌};
+ghost use Rattle.std.specs.Prelude.{◌≡◌, ◌^◌, ◌<◌, length, option_map, position, reverse, IfSome};
 ghost use Rattle.std.specs.Str.{bytes_eq};
 ghost use Rattle.pg_meaning.specs.Scope as meaning;
 ghost use Rattle.pg_shape.specs.View.{op as sign};
@@ -32,31 +32,12 @@ pub enum Thing {
     Predicate(u16),
 }
 
-// Behind one binder more: a place inside the others is one further in, the new one's own is 0.
-fn inside(place: Option<u32>, is_here: bool) -> Option<u32>
-    requires { IfSome place (λ n. n + 1 < 2 ^ 32) }
-    ensures { result ≡ (if is_here then Some 0 else option_map (λ n. n + 1) place) }
-{
-    if is_here {
-        return Some(0);
-    }
-    match place {
-        Some(n) => Some(n + 1),
-        None => None,
-    }
-}
-
 // The innermost binder of this name, by how many stand inside it.
-#[tactic(auto, using(crate::proofs::Places::turn))]
-fn binder_place(binders: &[Name], text: &str) -> Option<u32>
-    requires { length binders.now < 2 ^ 32 }
-    ensures { result ≡ position (bytes_eq text.now) (reverse binders.now) }
+fn binder_place(binders: &[Name], text: &str) -> Option<usize>
+    ensures is { result ≡ position (bytes_eq text.now) (reverse binders.now) }
+    ensures bound { IfSome result (λ i. i < length binders.now) }
 {
-    let mut place = None;
-    for name in binders {
-        place = inside(place, text == name.as_str());
-    }
-    place
+    binders.iter().rev().position(|name| text == name.as_str())
 }
 
 fn is_called(text: &str, name: &Option<Name>) -> bool
@@ -92,7 +73,7 @@ impl<'s> Scope<'s> {
         ensures there { IfSome result (λ t. meaning.IsThere (scope self.now) (thing t)) }
     {
         if let Some(i) = binder_place(self.binders, text) {
-            return Some(Thing::Binder(i));
+            return Some(Thing::Binder(i as u32));
         }
         if let Some(i) = variable_place(self.names.vars.as_slice(), text) {
             return Some(Thing::Variable(i));

@@ -2,7 +2,7 @@
 ghost use Rattle.std.specs.Prelude.{◌≡◌, ◌<◌, ◌^◌, ◌+◌, IfOk, IsTrue};
 ghost use Rattle.pg_logic.specs.Tree as tree;
 ghost use Rattle.pg_terms.specs.View.{formula};
-ghost use Rattle.pg_syntax.specs.Statements.{closed, closed_from, AreTight, total};
+ghost use Rattle.pg_syntax.specs.Statements.{closed, closed_from, AreTight, total, Closes, Means};
 
 use pg_terms::{Formula, Name};
 use sqlite_items::Boxed;
@@ -76,12 +76,17 @@ fn closed_from(
 
 /// The closed formula of a statement: `∀` for a variable and `→` for a hypothesis, the first binder
 /// outermost (docs/LOGIC.md, "Statements"). No formula of the statement has a loose bound variable,
-/// each free variable of one is below the number of variables before it, and the binders and the
-/// nodes of all formulas are together fewer than 2^32. It fails only for want of memory.
+/// and the binders and the nodes of all formulas are together fewer than 2^32. Over each signature
+/// where each hypothesis fits the variables before it and the target all of them, the formula has no
+/// free variable, and it is true where the target is true under all numbers for the variables under
+/// which the hypotheses are true. It fails only for want of memory.
+#[tactic(auto, using(crate::proofs::StatementTruth::statement_truth))]
 pub fn statement_formula(alloc: Global, statement: &Statement) -> Result<Formula, AllocError>
     requires tight { AreTight statement.now.binders.items (formula statement.now.target) }
     requires small { total statement.now.binders.items (formula statement.now.target) < 2 ^ 32 }
-    ensures { IfOk result (λ a. formula a ≡ closed statement.now.binders.items (formula statement.now.target)) }
+    ensures is { IfOk result (λ a. formula a ≡ closed statement.now.binders.items (formula statement.now.target)) }
+    ensures closes { IfOk result (λ a. Closes statement.now.binders.items (formula statement.now.target) (formula a)) }
+    ensures means { IfOk result (λ a. Means statement.now.binders.items (formula statement.now.target) (formula a)) }
 {
     let binders = statement.binders.as_slice();
     let made = closed_from(alloc, binders, 0, &statement.target)?;

@@ -7,11 +7,12 @@ use Rattle.pg_syntax.proofs.fresh.is_declared.Goals as goal
 
 pub returns-then-is_some : goal.returns-then-is_some
 returns-then-is_some c =
-    any-declared name_of (λ (p : NamedPredicate). p.name) c.args.text.now (declarations c.args.sig.now).functions (declarations c.args.sig.now).predicates true _
+    c.if-is_some.true
+    ∙ any-declared name_of (λ (p : NamedPredicate). p.name) c.args.text.now (declarations c.args.sig.now).functions (declarations c.args.sig.now).predicates true _
     (sym c.if-is_some.true ∙ c.is_some.ensures ∙ ap is_some c.function_named.ensures) refl
 
-pub returns : goal.returns
-returns c =
-    c.is_some-2.ensures ∙ ap is_some c.predicate_named.ensures
+pub returns-else-is_some : goal.returns-else-is_some
+returns-else-is_some c =
+    c.is_some-else-is_some.ensures ∙ ap is_some c.predicate_named.ensures
     ∙ any-declared name_of (λ (p : NamedPredicate). p.name) c.args.text.now (declarations c.args.sig.now).functions (declarations c.args.sig.now).predicates false _
     (sym c.if-is_some.false ∙ c.is_some.ensures ∙ ap is_some c.function_named.ensures) refl
