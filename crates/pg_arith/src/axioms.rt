@@ -275,8 +275,8 @@ fn total_count(declared: &[Function]) -> u32
 }
 
 impl Signature {
-    /// How many axioms there are: two of the numbers, two of each function and one of each constant.
-    /// Takes no memory.
+    /// How many axioms there are: two of the numbers, two of each function and one of each
+    /// constant. Takes no memory.
     pub fn axiom_count(&self) -> u32
         ensures { result ≡ length (logic.axioms (declarations self.now)) }
     {
@@ -299,15 +299,15 @@ impl Signature {
         }
     }
 
-    /// The axiom of this number, which is below their count. It has no free variable and is true. It
-    /// fails only for want of memory.
+    /// The axiom of this number, which is below their count. It has no free variable and is true.
+    /// It fails only for want of memory.
     pub fn axiom(&self, alloc: Global, id: u32) -> Result<Formula, AllocError>
         requires { id < length (logic.axioms (declarations self.now)) }
         ensures closed { IfOk result (λ a. fits (signature self.now) 0 0 (formula a) ≡ true) }
         ensures truth { IfOk result (λ a. IsTrueOf (signature self.now) [] (formula a)) }
         ensures exact { IfOk result (λ a. option_map (λ x. x.says) (slice_get (logic.axioms (declarations self.now)) id) ≡ Some (formula a)) }
     {
-        self.is_declared();
+        self.declared_law();
         Ok(self.axiom_of(alloc, id)?.into_inner())
     }
 

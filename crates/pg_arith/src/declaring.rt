@@ -28,7 +28,7 @@ pub enum DeclareFault {
     #[error("number {id} is not declared before, or has another arity")]
     UsesLater { id: u16 },
     /// There are more than 4 arguments: `n`.
-    #[error("{n} arguments are more than 4")]
+    #[error("an arity of {n} is over the limit of 4")]
     ArityOver { n: u16 },
     /// A free variable besides those named, or a bound one without a binder, has this number.
     #[error("variable {id} is loose")]

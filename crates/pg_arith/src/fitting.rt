@@ -91,9 +91,9 @@ fn formula_fits(
 }
 
 impl Signature {
-    /// Whether a formula fits this signature and `vars` variables: each free number is below `vars`,
-    /// no bound variable is loose, and each function and predicate is declared and has its arity.
-    /// Takes no memory.
+    /// Whether a formula fits this signature and `vars` variables: each free number is below
+    /// `vars`, no bound variable is loose, and each function and predicate is declared and has its
+    /// arity. Takes no memory.
     pub fn fits(&self, vars: u32, a: &Formula) -> bool
         ensures { result ≡ logic.fits (signature self.now) vars 0 (formula a.now) }
     {

@@ -2,8 +2,9 @@
 
 ghost use Rattle.pg_arith.specs.Laws.{AxiomLaw, ClassicalLaw, LongerLaw, OpeningLaw, SubstitutedLaw};
 
-/// A formula opened by a term is true where its body is, with the term's value for the loose bound
-/// variable.
+/// A body opened by a term is true where the body itself is, with the term's value for its loose
+/// bound variable. The term fits some number of free variables and has no loose bound one. The body
+/// fits as many free variables, and has no loose bound one but `Bound(0)` at its root.
 pub fn opening_law()
     ensures { OpeningLaw }
 {}
@@ -13,12 +14,13 @@ pub fn classical_law()
     ensures { ClassicalLaw }
 {}
 
-/// Each axiom is true.
+/// Each axiom of what is declared is true.
 pub fn axiom_law()
     ensures { AxiomLaw }
 {}
 
-/// Where a formula fits so many free variables, numbers for further ones change nothing of its truth.
+/// Where a formula fits so many free variables, numbers for further ones change nothing of its
+/// truth.
 pub fn longer_law()
     ensures { LongerLaw }
 {}

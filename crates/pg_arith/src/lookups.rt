@@ -88,8 +88,8 @@ impl Signature {
         &self.predicates()[id as usize].name
     }
 
-    /// How many arguments the predicate of this number takes. The number is below their count. Takes
-    /// no memory.
+    /// How many arguments the predicate of this number takes. The number is below their count.
+    /// Takes no memory.
     pub fn predicate_arity(&self, id: u16) -> u16
         requires { id < length (declarations self.now).predicates }
         ensures { option_map (λ p. p.arity) (slice_get (declarations self.now).predicates id) ≡ Some result }

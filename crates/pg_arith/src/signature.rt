@@ -101,9 +101,10 @@ impl Signature {
         })
     }
 
-    /// What holds of every signature: each declaration is over those before it, all names differ,
-    /// no arity is over 4, each parameter has a name, and the numbers fit 16 bits. Does nothing.
-    pub fn is_declared(&self)
+    /// The law of what is declared, which a caller's proof can take from here: each declaration is
+    /// over those before it, all names differ, no arity is over 4, each parameter has a name, and
+    /// the numbers fit 16 bits. It does nothing.
+    pub fn declared_law(&self)
         ensures { AreDeclared (declarations self.now) }
     {
         let _ = &self.functions;
@@ -123,14 +124,14 @@ impl Signature {
         self.predicates.as_slice()
     }
 
-    /// How many functions and constants there are.
+    /// How many functions and constants there are. Takes no memory.
     pub fn function_count(&self) -> u16
         ensures { result ≡ length (declarations self.now).functions }
     {
         self.functions.len() as u16
     }
 
-    /// How many predicates there are.
+    /// How many predicates there are. Takes no memory.
     pub fn predicate_count(&self) -> u16
         ensures { result ≡ length (declarations self.now).predicates }
     {

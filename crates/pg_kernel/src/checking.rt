@@ -340,6 +340,6 @@ pub fn check(
     // no variable and is true ("Soundness" in docs/LOGIC.md)
     ensures sound { IfOk result (λ v. v ≡ Verdict.Accepted → ((k : ℕ) → IsTrue (is_named k (proof p.now)) → IsTheorem (signature sig.now) (formulas theorems.now) k) → Entails (signature sig.now) vars (formulas hyps.now) (formula goal.now)) }
 {
-    sig.is_declared();
+    sig.declared_law();
     checked(alloc, sig, theorems, vars, hyps, p, goal)
 }

@@ -42,7 +42,7 @@ impl Theorems {
         // each of them fits no variable and is true
         ensures theorems { IfOk result (λ t. (k : ℕ) → IsTheorem (signature sig.now) (formulas t) k) }
     {
-        sig.is_declared();
+        sig.declared_law();
         let mut formulas = Items::new(alloc);
         for id in 0..sig.axiom_count() {
             formulas.push(sig.axiom(alloc, id)?)?;

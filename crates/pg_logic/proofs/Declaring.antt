@@ -1,11 +1,11 @@
 -- One more declaration, where nothing refuses it.
-use Rattle.std.proofs.Common.{◌≡◌, ℕ, zero, suc, ◌+◌, ◌-◌, ◌<◌, ◌≤◌, ◌^◌, List, [], ◌∷◌, ◌++◌, map, length, take, Bool, true, false, ◌&&◌, ◌||◌, Option, Some, None, refl, arith, ap, sym, ◌∙◌, subst, append_assoc, append-nil, length-append}
+use Rattle.std.proofs.Common.{◌≡◌, ℕ, zero, suc, ◌+◌, ◌-◌, ◌<◌, ◌≤◌, ◌^◌, List, [], ◌∷◌, ◌++◌, map, length, take, Bool, true, false, Option, Some, None, refl, arith, ap, sym, ◌∙◌, subst, append_assoc, append-nil}
 use Rattle.std.specs.Prelude.{slice_get, nat_lt, option_map, flat_map, codes, if◌then◌else◌}
 use Rattle.std.proofs.lemmas.Bool.{and_parts, and_from, false≢true, ltb-false}
 use Rattle.std.proofs.lemmas.Grind.{flat_map-append}
 use Rattle.pg_logic.specs.Tree.{Tm, free, bound, nought, succ, app, Tms, none, arg, Fm, falsum, eq, pred, and, or, imp, all, ex}
-use Rattle.pg_logic.specs.Signature.{Function, recursive, constant, Predicate, Signature, takes, holds_of, count, fits_term, fits_terms, fits, FitsFunction, IsDeclared}
-use Rattle.pg_logic.specs.Declarations.{Name, NamedFunction, by_recursion, by_term, NamedPredicate, Declarations, names_in, names_of, function_of, predicate_of, signature_of, arity_of, clash, first, unless_true, undeclared, undeclared_all, undeclared_in, loose, loose_all, loose_in, Refusal, name_taken, arity_over, loose_variable, refusal_by, function_refusal, predicate_refusal, HasParameters, AreDeclared, with_function, with_predicate}
+use Rattle.pg_logic.specs.Signature.{Function, Predicate, Signature, takes, holds_of, count, fits_term, fits_terms, fits, FitsFunction, IsDeclared}
+use Rattle.pg_logic.specs.Declarations.{NamedFunction, by_recursion, by_term, NamedPredicate, Declarations, names_in, names_of, function_of, predicate_of, signature_of, arity_of, clash, first, unless_true, undeclared, undeclared_all, undeclared_in, loose, loose_all, loose_in, arity_over, loose_variable, refusal_by, function_refusal, predicate_refusal, HasParameters, AreDeclared, with_function, with_predicate}
 use Rattle.pg_logic.proofs.Names.{differ-between}
 
 -- two lists that are empty together

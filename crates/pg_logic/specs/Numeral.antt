@@ -1,5 +1,5 @@
 -- Numerals, and the standard model where nothing is declared.
-use Rattle.std.specs.Prelude.{ℕ, Bool, true, false, [], ◌≡◌, IsTrue, ◌&&◌}
+use Rattle.std.specs.Prelude.{ℕ, Bool, true, false, [], ◌≡◌, ◌&&◌}
 use Rattle.pg_logic.specs.Tree.{Tm, nought, succ, Fm, eq}
 use Rattle.pg_logic.specs.Signature.{Signature}
 use Rattle.pg_logic.specs.Value.{value, functions_of}

@@ -18,5 +18,5 @@ returns-clause-sound c =
     let p = proof c.args.p.now in
     let a = formula c.args.goal.now in
     if_ok c.checked.result (λ v. v ≡ verdict_of (fault_of s th p c.args.vars h a 0)) _
-    (λ v e acc known. sound s c.is_declared.ensures.declared th p c.args.vars h a 0 (each_named (IsTheorem s th) p known) c.requires.hyps c.requires.goal (fault_none (fault_of s th p c.args.vars h a 0) v e acc))
+    (λ v e acc known. sound s c.declared_law.ensures.declared th p c.args.vars h a 0 (each_named (IsTheorem s th) p known) c.requires.hyps c.requires.goal (fault_none (fault_of s th p c.args.vars h a 0) v e acc))
     c.checked.ensures

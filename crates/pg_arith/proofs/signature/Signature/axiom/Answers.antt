@@ -9,9 +9,9 @@ use Rattle.pg_arith.proofs.signature.Signature.axiom.Goals as goal
 pub returns-clause-closed : goal.returns-clause-closed
 returns-clause-closed c =
     subst (λ a. fits (signature c.args.self.now) 0 0 (formula a) ≡ true) (sym c.into_inner.ensures)
-    (closed-says (declarations c.args.self.now) c.is_declared.ensures c.args.id _ c.in_ok-axiom_of.ensures)
+    (closed-says (declarations c.args.self.now) c.declared_law.ensures c.args.id _ c.in_ok-axiom_of.ensures)
 
 pub returns-clause-truth : goal.returns-clause-truth
 returns-clause-truth c =
     subst (λ a. IsTrueOf (signature c.args.self.now) [] (formula a)) (sym c.into_inner.ensures)
-    (true-says (declarations c.args.self.now) c.is_declared.ensures c.args.id _ c.in_ok-axiom_of.ensures)
+    (true-says (declarations c.args.self.now) c.declared_law.ensures c.args.id _ c.in_ok-axiom_of.ensures)

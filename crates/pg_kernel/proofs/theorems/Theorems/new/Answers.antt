@@ -17,5 +17,5 @@ loop-id-preserved c =
 pub returns-clause-theorems : goal.returns-clause-theorems
 returns-clause-theorems c =
     let d = declarations c.args.sig.now in
-    axioms_theorems d c.is_declared.ensures (formulas c.loop-id.formulas)
+    axioms_theorems d c.declared_law.ensures (formulas c.loop-id.formulas)
     (c.loop-id.invariant.0 ∙ take_all (axioms d) c.loop-id.id (omega (arith, c.loop-id-test.false, c.axiom_count-id-end.ensures)))
