@@ -248,7 +248,7 @@ pub fn print_formula(
     ensures reads { IfOk result (λ text. CanReadFormula names.now.vars.items (declarations sig.now) (view.formula formula.now) → ReadsBack (outermost names.now.vars.items (declarations sig.now)) (view.formula formula.now)) }
     ensures again { IfOk result (λ text. FormulaComesBack names.now.vars.items (declarations sig.now) (view.formula formula.now) (string_bytes text)) }
 {
-    sig.is_declared();
+    sig.declared_law();
     let cx = Context { names, sig };
     let p = Printer { alloc, cx: &cx };
     let mut out = String::new(alloc);
@@ -271,7 +271,7 @@ pub fn print_term(
     ensures reads { IfOk result (λ text. CanReadTerm names.now.vars.items (declarations sig.now) (view.term term.now) → TermReadsBack (outermost names.now.vars.items (declarations sig.now)) (view.term term.now)) }
     ensures again { IfOk result (λ text. TermComesBack names.now.vars.items (declarations sig.now) (view.term term.now) (string_bytes text)) }
 {
-    sig.is_declared();
+    sig.declared_law();
     let mut out = String::new(alloc);
     let place = Place {
         context: Context { names, sig },

@@ -6,7 +6,7 @@ use Rattle.pg_syntax.proofs.Again.{term-again}
 use Rattle.pg_syntax.proofs.print.print_term.Goals as goal
 
 pub returns-clause-reads : goal.returns-clause-reads
-returns-clause-reads c = term-back-law c.args.names.now.vars.items (declarations c.args.sig.now) (term c.args.term.now) c.is_declared.ensures
+returns-clause-reads c = term-back-law c.args.names.now.vars.items (declarations c.args.sig.now) (term c.args.term.now) c.declared_law.ensures
 
 pub returns-clause-again : goal.returns-clause-again
-returns-clause-again c = term-again c.args.names.now.vars.items (declarations c.args.sig.now) (term c.args.term.now) _ c.is_declared.ensures (search rules)
+returns-clause-again c = term-again c.args.names.now.vars.items (declarations c.args.sig.now) (term c.args.term.now) _ c.declared_law.ensures (search rules)
