@@ -25,7 +25,7 @@ and_then_ok (Err z) f y e = absurd (clash z y e)
 
 -- ---- lines
 
-goes : (column : ℕ) (ws : List Word) → GoesOn column (take (line_length column ws) ws)
+pub goes : (column : ℕ) (ws : List Word) → GoesOn column (take (line_length column ws) ws)
 goes column [] = tt
 goes column (w ∷ ws) =
     elim (is_semicolon w || ends_line column w) as (λ b. (is_semicolon w || ends_line column w) ≡ b → GoesOn column (take (if b then 0 else suc (line_length column ws)) (w ∷ ws))) [

@@ -1,9 +1,12 @@
 pub mod Alike
 pub mod Arguments
+pub mod Closings
 pub mod Counts
 pub mod Ends
+pub mod Finishes
 pub mod Forms
 pub mod Found
+pub mod Hinted
 pub mod Items
 pub mod Laid
 pub mod Lists
@@ -14,8 +17,11 @@ pub mod Pieces
 pub mod Places
 pub mod Promises
 pub mod Readers
+pub mod Resumes
+pub mod Rounds
 pub mod Rows
 pub mod Shallow
 pub mod Shapes
+pub mod Standing
 pub mod Starts
 pub mod Turns

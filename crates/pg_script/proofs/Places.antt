@@ -1,5 +1,5 @@
 -- A fault stands where no script goes on.
-use Rattle.std.proofs.Common.{◌≡◌, ◌∙◌, ℕ, suc, ◌+◌, ◌-◌, ◌≤◌, ◌<◌, Bool, true, false, List, [], ◌∷◌, ◌++◌, length, refl, sym, ap, subst, arith, append_assoc, Option, Some, None, Result, Ok, Err, ◌⊎◌, inl, inr, nat_lt, if◌then◌else◌}
+use Rattle.std.proofs.Common.{◌≡◌, ◌∙◌, ℕ, suc, ◌+◌, ◌-◌, ◌≤◌, ◌<◌, Bool, true, false, List, [], ◌∷◌, ◌++◌, length, refl, sym, ap, subst, arith, append_assoc, append-nil, Option, Some, None, Result, Ok, Err, ◌⊎◌, inl, inr, nat_lt, if◌then◌else◌}
 use Rattle.std.specs.Prelude.{All}
 use Rattle.std.proofs.lemmas.Bool.Decides.{nat_tests}
 use Rattle.pg_base.specs.declared.token.TokenKind.TheVariants.{Name, Number, Text, Sign as SignToken}
@@ -15,13 +15,15 @@ use Rattle.pg_script.specs.declared.item.Script.{Script}
 use Rattle.pg_script.specs.Data.{Entry}
 use Rattle.pg_script.specs.View.{Reads}
 use Rattle.pg_script.specs.Grammar.{IsScript}
-use Rattle.pg_script.specs.Faults.{BeginsNoScript, StopsAtToken, StopsInside, Stops, AreShort, AreLong, TokensFault, StopsInText, TextFault}
+use Rattle.pg_script.specs.Faults.{BeginsScript, BeginsNoScript, StopsAtToken, StopsInside, Stops, AreShort, AreLong, TokensFault, StopsInText, TextFault}
 use Rattle.pg_script.specs.Lines.{Read, and_then, unless_fault}
 use Rattle.pg_script.specs.Scripts.{script, entries_of_tokens, last_end, long_fault, items_of, lex_place, stands_before, broken_script, lexed_script, script_of}
 use Rattle.pg_script.proofs.Alike.{Along, Two, Passes, Stops as Reading, passed, faulty}
 use Rattle.pg_script.proofs.Laid.{script_read}
 use Rattle.pg_script.proofs.Found.{clash}
 use Rattle.pg_script.proofs.Starts.{script_alike, script_passes}
+use Rattle.pg_script.proofs.Standing.{At, Missing, Stands, stands_map}
+use Rattle.pg_script.proofs.Resumes.{begun_before}
 
 -- ---- tokens in order begin at places of their own
 
@@ -115,23 +117,69 @@ begins-none sample end front back e is off more other_end es h =
     let t : Two = record { Front = λ x. Unit {0}; Past = Here end back; end = end; back = back; other_end = other_end; other = more; along = here-along end back; stands = λ what. inr refl } in
     none-alike sample t (front ++ more) other_end es (entries_of_tokens (front ++ back) end sample) e is off h (script_alike sample t front (any-along front))
 
-token-stops : (sample : Bool) (end : ℕ) (front back : List Word) (w : Word) (ws : List Word) (e : ScriptFault) (at : ℕ) → ws ≡ front ++ w ∷ back → entries_of_tokens ws end sample ≡ Err e → at ≡ w.at → (Here end back e → ⊥) → StopsAtToken sample ws at
-token-stops sample end front back w ws e at whole is here off =
+token-stops : (sample : Bool) (end : ℕ) (front back : List Word) (w : Word) (ws : List Word) (e : ScriptFault) (at : ℕ) → ws ≡ front ++ w ∷ back → entries_of_tokens ws end sample ≡ Err e → at ≡ w.at → (Here end back e → ⊥)
+    → BeginsScript sample front → StopsAtToken sample ws at
+token-stops sample end front back w ws e at whole is here off begun =
     let same : (front ++ w ∷ []) ++ back ≡ ws = append_assoc front (w ∷ []) back ∙ sym whole in
-    record { front = front; token = w; back = back; whole = whole; place = sym here; none = begins-none sample end (front ++ w ∷ []) back e (ap (λ z. entries_of_tokens z end sample) same ∙ is) off }
+    record { front = front; token = w; back = back; whole = whole; place = sym here; begun = begun; none = begins-none sample end (front ++ w ∷ []) back e (ap (λ z. entries_of_tokens z end sample) same ∙ is) off }
 
--- One of these tokens, of those that are left, has the fault. They are read up to one end and stand in order up to another.
-find : (sample : Bool) (stop end : ℕ) (e : ScriptFault) (at : ℕ) (ws : List Word) → entries_of_tokens ws stop sample ≡ Err e → ((back : List Word) → Rising (suc at) end back → Here stop back e → ⊥)
-    → (low : ℕ) (front rest : List Word) → ws ≡ front ++ rest → Rising low end rest → Among rest at → StopsAtToken sample ws at
-find sample stop end e at ws is off low front [] whole r h = absurd h
-find sample stop end e at ws is off low front (w ∷ rest) whole r (inl h) =
-    let R : ℕ → Type 0 = λ n. Rising (suc n) end rest in
-    token-stops sample stop front rest w ws e at whole is h (off rest (subst R (sym h) r.1))
-find sample stop end e at ws is off low front (w ∷ rest) whole r (inr h) =
-    find sample stop end e at ws is off (suc w.at) (front ++ w ∷ []) rest (whole ∙ sym (append_assoc front (w ∷ []) rest)) r.1 h
+at-here : (end : ℕ) (w : Word) (ws : List Word) (e : ScriptFault) → At w.at e → Here end (w ∷ ws) e
+at-here end w ws (Expected at what) h = inl (inl h)
+at-here end w ws (TooMany at) h = inl h
+at-here end w ws (Deep at) h = inl h
+at-here end w ws (TooLong at) h = h
+at-here end w ws (Lex fault) h = h
+at-here end w ws OutOfMemory h = h
+
+missing-here : (end : ℕ) (e : ScriptFault) → Missing end e → Here end [] e
+missing-here end (Expected at what) h = inr h
+missing-here end (TooMany at) h = h
+missing-here end (Deep at) h = h
+missing-here end (TooLong at) h = h
+missing-here end (Lex fault) h = h
+missing-here end OutOfMemory h = h
+
+stands-here : (C : List Word → Type 0) (end : ℕ) (ws : List Word) (e : ScriptFault) → Stands C end ws e → Here end ws e
+stands-here C end [] e s = missing-here end e s.0
+stands-here C end (w ∷ ws) e (inl s) = at-here end w ws e s.0
+stands-here C end (w ∷ ws) e (inr s) = here-more end w ws e (stands-here (λ fr. C (w ∷ fr)) end ws e s)
 
 not-behind : (end : ℕ) (back : List Word) (at : ℕ) → Rising (suc at) end back → Among back at → ⊥
 not-behind end back at r h = omega (arith, among-low (suc at) end back at r h)
+
+-- the fault stands at this place alone
+abbrev Only : ScriptFault → ℕ → Type 0
+Only e at = (n : ℕ) → At n e → at ≡ n
+
+-- the tokens before this one begin a script, since the fault stands no further back
+begun-here : (sample : Bool) (stop end : ℕ) (e : ScriptFault) (at : ℕ) (front : List Word) (w : Word) (rest : List Word) → ((back : List Word) → Rising (suc at) end back → Here stop back e → ⊥) → Rising (suc at) end rest
+    → Stands (λ fr. BeginsScript sample (front ++ fr)) stop (w ∷ rest) e → BeginsScript sample front
+begun-here sample stop end e at front w rest off r (inl s) = let P : List Word → Type 0 = BeginsScript sample in subst P (append-nil front) s.1
+begun-here sample stop end e at front w rest off r (inr s) = absurd (off rest r (stands-here (λ fr. BeginsScript sample (front ++ w ∷ fr)) stop rest e s))
+
+begun-on : (sample : Bool) (stop end : ℕ) (e : ScriptFault) (at : ℕ) (front : List Word) (w : Word) (rest : List Word) → Only e at → Rising (suc w.at) end rest → Among rest at
+    → Stands (λ fr. BeginsScript sample (front ++ fr)) stop (w ∷ rest) e → Stands (λ fr. BeginsScript sample ((front ++ w ∷ []) ++ fr)) stop rest e
+begun-on sample stop end e at front w rest o r h (inl s) = absurd (omega (arith, o w.at s.0, among-low (suc w.at) end rest at r h))
+begun-on sample stop end e at front w rest o r h (inr s) =
+    let P : List Word → Type 0 = BeginsScript sample in
+    stands_map (λ fr. BeginsScript sample (front ++ w ∷ fr)) (λ fr. BeginsScript sample ((front ++ w ∷ []) ++ fr)) stop rest e (λ fr c. subst P (sym (append_assoc front (w ∷ []) fr)) c) s
+
+-- One of these tokens, of those that are left, has the fault. They are read up to one end and stand in order up to another.
+find : (sample : Bool) (stop end : ℕ) (e : ScriptFault) (at : ℕ) (ws : List Word) → entries_of_tokens ws stop sample ≡ Err e → Only e at → ((back : List Word) → Rising (suc at) end back → Here stop back e → ⊥)
+    → (low : ℕ) (front rest : List Word) → ws ≡ front ++ rest → Rising low end rest → Among rest at → Stands (λ fr. BeginsScript sample (front ++ fr)) stop rest e → StopsAtToken sample ws at
+find sample stop end e at ws is o off low front [] whole r h s = absurd h
+find sample stop end e at ws is o off low front (w ∷ rest) whole r (inl h) s =
+    let R : ℕ → Type 0 = λ n. Rising (suc n) end rest in
+    let q = subst R (sym h) r.1 in
+    token-stops sample stop front rest w ws e at whole is h (off rest q) (begun-here sample stop end e at front w rest off q s)
+find sample stop end e at ws is o off low front (w ∷ rest) whole r (inr h) s =
+    find sample stop end e at ws is o off (suc w.at) (front ++ w ∷ []) rest (whole ∙ sym (append_assoc front (w ∷ []) rest)) r.1 h (begun-on sample stop end e at front w rest o r.1 h s)
+
+-- the tokens begin a script where the fault stands at the end
+begun-end : (C : List Word → Type 0) (low end : ℕ) (ws : List Word) (e : ScriptFault) → Rising low end ws → Only e end → Stands C end ws e → C ws
+begun-end C low end [] e r o s = s.1
+begun-end C low end (w ∷ ws) e r o (inl s) = absurd (omega (arith, o w.at s.0, end-low (suc w.at) end ws r.1))
+begun-end C low end (w ∷ ws) e r o (inr s) = begun-end (λ fr. C (w ∷ fr)) (suc w.at) end ws e r.1 o s
 
 not-behind-or-end : (end : ℕ) (back : List Word) (at : ℕ) → Rising (suc at) end back → Among back at ⊎ (at ≡ end) → ⊥
 not-behind-or-end end back at r (inl h) = not-behind end back at r h
@@ -140,10 +188,13 @@ not-behind-or-end end back at r (inr h) = omega (arith, end-low (suc at) end bac
 -- a fault of tokens in order stands where no script goes on
 stops : (sample : Bool) (low end : ℕ) (ws : List Word) (e : ScriptFault) → Rising low end ws → entries_of_tokens ws end sample ≡ Err e → Here end ws e → Stops sample end ws e
 stops sample low end ws (Expected at what) r is (inl h) =
-    inl (find sample end end (Expected at what) at ws is (λ back b. λ x. not-behind-or-end end back at b x) low [] ws refl r h)
-stops sample low end ws (Expected at what) r is (inr h) = inr (h, λ es g. none-reads sample end es ws (Expected at what) is g)
-stops sample low end ws (TooMany at) r is h = find sample end end (TooMany at) at ws is (λ back b. λ x. not-behind end back at b x) low [] ws refl r h
-stops sample low end ws (Deep at) r is h = find sample end end (Deep at) at ws is (λ back b. λ x. not-behind end back at b x) low [] ws refl r h
+    inl (find sample end end (Expected at what) at ws is (λ n q. q) (λ back b. λ x. not-behind-or-end end back at b x) low [] ws refl r h (begun_before sample end ws (Expected at what) is))
+stops sample low end ws (Expected at what) r is (inr h) =
+    inr (h, begun-end (BeginsScript sample) low end ws (Expected at what) r (λ n q. sym h ∙ q) (begun_before sample end ws (Expected at what) is), λ es g. none-reads sample end es ws (Expected at what) is g)
+stops sample low end ws (TooMany at) r is h =
+    find sample end end (TooMany at) at ws is (λ n q. q) (λ back b. λ x. not-behind end back at b x) low [] ws refl r h (begun_before sample end ws (TooMany at) is)
+stops sample low end ws (Deep at) r is h =
+    find sample end end (Deep at) at ws is (λ n q. q) (λ back b. λ x. not-behind end back at b x) low [] ws refl r h (begun_before sample end ws (Deep at) is)
 stops sample low end ws (TooLong at) r is h = h
 stops sample low end ws (Lex fault) r is h = h
 stops sample low end ws OutOfMemory r is h = h
@@ -214,10 +265,12 @@ before-off stop end back at r lt (inr h) = omega (arith, lt, h)
 -- a fault before the end up to which the tokens are read
 before-stop : (sample : Bool) (stop end : ℕ) (ws : List Word) (e : ScriptFault) → Rising 0 end ws → entries_of_tokens ws stop sample ≡ Err e → Here stop ws e → stands_before e stop ≡ true → StopsInside sample ws e
 before-stop sample stop end ws (Expected at what) r is (inl h) b =
-    find sample stop end (Expected at what) at ws is (λ back q x. before-off stop end back at q (lt-true at stop b) x) 0 [] ws refl r h
+    find sample stop end (Expected at what) at ws is (λ n q. q) (λ back q x. before-off stop end back at q (lt-true at stop b) x) 0 [] ws refl r h (begun_before sample stop ws (Expected at what) is)
 before-stop sample stop end ws (Expected at what) r is (inr h) b = absurd (omega (arith, lt-true at stop b, h))
-before-stop sample stop end ws (TooMany at) r is h b = find sample stop end (TooMany at) at ws is (λ back q x. not-behind end back at q x) 0 [] ws refl r h
-before-stop sample stop end ws (Deep at) r is h b = find sample stop end (Deep at) at ws is (λ back q x. not-behind end back at q x) 0 [] ws refl r h
+before-stop sample stop end ws (TooMany at) r is h b =
+    find sample stop end (TooMany at) at ws is (λ n q. q) (λ back q x. not-behind end back at q x) 0 [] ws refl r h (begun_before sample stop ws (TooMany at) is)
+before-stop sample stop end ws (Deep at) r is h b =
+    find sample stop end (Deep at) at ws is (λ n q. q) (λ back q x. not-behind end back at q x) 0 [] ws refl r h (begun_before sample stop ws (Deep at) is)
 before-stop sample stop end ws (TooLong at) r is h b = h
 before-stop sample stop end ws (Lex fault) r is h b = h
 before-stop sample stop end ws OutOfMemory r is h b = h

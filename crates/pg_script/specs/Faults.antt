@@ -6,25 +6,35 @@ use Rattle.pg_script.specs.declared.fault.ScriptFault.{ScriptFault}
 use Rattle.pg_script.specs.declared.fault.ScriptFault.TheVariants.{TooLong, Lex, Expected, TooMany, Deep, OutOfMemory}
 use Rattle.pg_script.specs.declared.item.Script.{Script}
 use Rattle.pg_script.specs.Data.{Entry}
-use Rattle.pg_script.specs.Grammar.{IsScript}
+use Rattle.pg_script.specs.Grammar.{IsBlock, IsScript}
 use Rattle.pg_script.specs.Scripts.{last_end}
 
 -- No script begins with these tokens, whatever follows them.
 abbrev pub BeginsNoScript : Bool → List Word → Type 0
 BeginsNoScript sample ws = (more : List Word) (end : ℕ) (es : List Entry) → IsScript sample end (ws ++ more) es → ⊥
 
--- One of these tokens begins at this byte, and no script begins with the tokens up to it and with it.
+-- These tokens, up to the end, are this script, of however many steps and however deeply nested blocks.
+pub data IsLongScript (sample : Bool) (end : ℕ) : List Word → List Entry → Type 0 where
+  nothing : IsLongScript sample end [] []
+  one_block : (budget room left : ℕ) (w : Word) (ws : List Word) (es : List Entry) → IsBlock sample end budget w.column room left (w ∷ ws) [] es → IsLongScript sample end (w ∷ ws) es
+
+-- Some script begins with these tokens, the limits on steps and on nested blocks aside.
+abbrev pub BeginsScript : Bool → List Word → Type 0
+BeginsScript sample ws = (more : List Word) × (end : ℕ) × (es : List Entry) × IsLongScript sample end (ws ++ more) es
+
+-- One of these tokens begins at this byte. Some script begins with the tokens before it, and none with those and with it.
 pub record StopsAtToken (sample : Bool) (ws : List Word) (at : ℕ) : Type 0 where
   pub front : List Word
   pub token : Word
   pub back : List Word
   pub whole : ws ≡ front ++ token ∷ back
   pub place : token.at ≡ at
+  pub begun : BeginsScript sample front
   pub none : BeginsNoScript sample (front ++ token ∷ [])
 
--- This byte is the end, and these tokens up to the end are no script.
+-- This byte is the end. Some script begins with these tokens, but up to the end they are none.
 abbrev pub StopsAtEnd : Bool → (end : ℕ) → List Word → (at : ℕ) → Type 0
-StopsAtEnd sample end ws at = (at ≡ end) × ((es : List Entry) → IsScript sample end ws es → ⊥)
+StopsAtEnd sample end ws at = (at ≡ end) × BeginsScript sample ws × ((es : List Entry) → IsScript sample end ws es → ⊥)
 
 -- The fault stands at one of these tokens.
 abbrev pub StopsInside : Bool → List Word → ScriptFault → Type 0

@@ -120,7 +120,8 @@ pub fn read_items<'a>(
     ensures laid_out { ReadsScript sample end (words tokens.now) result }
     // what is laid out by columns, and not too long, is read
     ensures read { long_fault (words tokens.now) ≡ None → ReadsAll sample end (words tokens.now) result }
-    // too long are exactly the tokens that are; any other fault stands where no script goes on
+    // too long are exactly the tokens that are; any other fault stands at the first place where no
+    // script goes on
     ensures place { TokensFault sample end (words tokens.now) result }
 {
     items_in(alloc, tokens, end, sample)
@@ -204,7 +205,8 @@ pub fn read_script<'a>(
     ensures laid_out { ReadsScript sample (length source.now) (lexed source.now).words result }
     // what is laid out by columns, and not too long, is read
     ensures read { length source.now ≤ 16384 → (lexed source.now).fault ≡ None → ReadsAll sample (length source.now) (lexed source.now).words result }
-    // too long are exactly the texts that are; any other fault is a token's, or stands where no script goes on
+    // too long are exactly the texts that are; any other fault is a token's, or stands at the first
+    // place where no script goes on
     ensures place { TextFault sample source.now result }
 {
     script_in(alloc, source, sample)
