@@ -212,16 +212,19 @@ name-part until.Comma end tail s = one-more (length_until until.Comma end 0 0 ta
 name-part until.Assign end tail s = one-more (length_until until.Assign end 0 0 tail) 0 (stop-read until.Assign end 0 0 tail refl s)
 name-part until.End end tail s = one-more (length_until until.End end 0 0 tail) 0 (stop-read until.End end 0 0 tail refl s)
 
-pub part_begin : (what : Wanted) (u : Until) → Reaches (Stop u) (part_reader what u) []
-part_begin what u = (some_name ∷ [], (refl, refl, tt), λ end tail s. part-takes what u end some_name [] tail (name-part u end tail s))
+pub part_name : (what : Wanted) (u : Until) (end : ℕ) (tail : List Word) → Stop u tail → Takes (part_reader what u) (λ x. Unit {0}) end (some_name ∷ []) tail
+part_name what u end tail s = part-takes what u end some_name [] tail (name-part u end tail s)
+
+part-begin : (what : Wanted) (u : Until) → Reaches (Stop u) (part_reader what u) []
+part-begin what u = (some_name ∷ [], (refl, refl, tt), λ end tail s. part_name what u end tail s)
 
 part-reaches : (what : Wanted) (u : Until) (fr : List Word) → Closes u 0 0 fr → Reaches (Stop u) (part_reader what u) fr
-part-reaches what u [] c = part_begin what u
+part-reaches what u [] c = part-begin what u
 part-reaches what u (v ∷ fr) c = (c.0, c.1, λ end tail s. part-takes what u end v (fr ++ c.0) tail (c.2 end tail s))
 
 part-stands : (what : Wanted) (u : Until) (end : ℕ) (ws : List Word) → Stands (Reaches (Stop u) (part_reader what u)) end ws (Expected (place end ws) what)
-part-stands what u end [] = (refl, part_begin what u)
-part-stands what u end (w ∷ ws) = inl (refl, part_begin what u)
+part-stands what u end [] = (refl, part-begin what u)
+part-stands what u end (w ∷ ws) = inl (refl, part-begin what u)
 
 abbrev Alike : {X : Type 0} → X → X → Type 0
 Alike x y = Unit {0}
@@ -425,9 +428,11 @@ args-by (suc k) depth end (w ∷ ws) le =
 abbrev pub expr_reader : ℕ → Reader (Expression × List Word)
 expr_reader depth room end ws = expr_at end depth ws
 
-pub expr_begin : (depth : ℕ) → Reaches Shut (expr_reader depth) []
-expr_begin depth =
-    (some_name ∷ [], (refl, refl, tt), λ end tail s. (0, record { name = some_name; args = [] }, tt, λ room le. ap (with_name some_name) (shut-read end depth tail s)))
+pub expr_name : (depth end : ℕ) (tail : List Word) → Shut tail → Takes (expr_reader depth) (λ x. Unit {0}) end (some_name ∷ []) tail
+expr_name depth end tail s = (0, record { name = some_name; args = [] }, tt, λ room le. ap (with_name some_name) (shut-read end depth tail s))
+
+expr-begin : (depth : ℕ) → Reaches Shut (expr_reader depth) []
+expr-begin depth = (some_name ∷ [], (refl, refl, tt), λ end tail s. expr_name depth end tail s)
 
 named-takes : (depth end : ℕ) (w : Word) (front tail : List Word) → Takes (args_reader depth) (λ x. Unit {0}) end front tail → Takes (λ room n ws. with_name w (args_from n depth 0 ws)) (λ x. Unit {0}) end front tail
 named-takes depth end w front tail t = (t.0, record { name = w; args = t.1 }, tt, λ room le. ap (with_name w) (t.3 room le))
@@ -530,9 +535,9 @@ closed-answer depth end ws r h =
     (lead_by IsSome Shut Whatever (λ x y. Unit {0}) (λ x y. Unit {0}) (expr_reader depth) close_reader closes 0 end ws r h (λ x. close_piece (λ a b. Unit {0}) x 0 tt)))
 
 expr-by : (depth end : ℕ) (ws : List Word) → ExprAnswer depth end ws (expr_at end depth ws)
-expr-by depth end [] = (refl, expr_begin depth)
+expr-by depth end [] = (refl, expr-begin depth)
 expr-by depth end (w ∷ ws) =
-    piece_head Shut (λ x y. Unit {0}) (expr_reader depth) end w ws (expr_mark end depth w (mark w) ws (expr_at end (depth + 1) ws)) (expr_begin depth)
+    piece_head Shut (λ x y. Unit {0}) (expr_reader depth) end w ws (expr_mark end depth w (mark w) ws (expr_at end (depth + 1) ws)) (expr-begin depth)
     (expr-head depth end w (mark w) ws (closed-answer (depth + 1) end ws (expr_at end (depth + 1) ws) (expr-by (depth + 1) end ws)))
 
 pub expr_piece : (depth room : ℕ) → Piece IsSome Shut (λ x y. Unit {0}) room (expr_reader depth)

@@ -15,7 +15,7 @@ use Rattle.pg_script.specs.Marks.{mark, is_name}
 use Rattle.pg_script.specs.Lines.{Read, and_then, unless_fault, with_first, before, part_at, expr_at, ended, name_at, names_fault, steps_fault, place_at, deep_fault, rule_at, no_rule, rule_end, rules_at, bracketed_rules, no_term, terms_after, terms_at, exact_at, apply_at, rewrite_at, intro_at, names_after, split_at, have_after, have_formula, have_of, cases_of, shape_at}
 use Rattle.pg_script.proofs.Found.{clash, inj, and_then_ok}
 use Rattle.pg_script.proofs.Standing.{At, Stands, stands_map, Inline, Reader, Fine, Extends, Answer, Ends, HeadAnswer, headed, by_head, goes_on, same_answer, Fit, Takes, Reaches, IsSome, Whatever, PieceAnswer, Piece, HeadPiece, piece_head, piece_on, chained, fine_join, takes_join, Follows, then_ends, Leads, then_piece}
-use Rattle.pg_script.proofs.Closings.{sign_word, some_name, Stop, Shut, part_reader, part_begin, part_piece, expr_reader, expr_begin, expr_piece}
+use Rattle.pg_script.proofs.Closings.{sign_word, some_name, Stop, Shut, part_reader, part_piece, expr_reader, expr_piece}
 
 -- ---- readers whose value is changed
 

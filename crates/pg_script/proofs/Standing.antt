@@ -8,7 +8,6 @@ use Rattle.pg_script.specs.Marks.{place}
 use Rattle.pg_script.specs.Lines.{Read, and_then}
 use Rattle.pg_script.specs.Blocks.{is_semicolon}
 use Rattle.pg_script.specs.Grammar.{GoesOn}
-use Rattle.pg_script.proofs.Found.{clash}
 
 -- ---- where a fault stands
 
