@@ -1,17 +1,15 @@
 -- Parts, arguments and expressions that are begun can be finished.
-use Rattle.std.proofs.Common.{◌≡◌, ◌∙◌, ℕ, zero, suc, ◌+◌, ◌-◌, ◌≤◌, ◌<◌, Bool, true, false, ◌&&◌, List, [], ◌∷◌, ◌++◌, length, drop, refl, sym, ap, subst, arith, append_assoc, append-nil, length-append, Ok, Err, if◌then◌else◌, IsTrue, ◌==◌, nat_le, ◌⊎◌, inl, inr}
+use Rattle.std.proofs.Common.{◌≡◌, ◌∙◌, ℕ, zero, suc, ◌+◌, ◌-◌, ◌≤◌, Bool, true, false, ◌&&◌, List, [], ◌∷◌, ◌++◌, length, drop, refl, sym, ap, subst, arith, append_assoc, append-nil, length-append, Ok, Err, if◌then◌else◌, IsTrue, ◌==◌, nat_le, ◌⊎◌, inl, inr}
 use Rattle.std.specs.Prelude.{codes}
 use Rattle.std.proofs.lemmas.Bool.Decides.{nat_tests}
 use Rattle.std.proofs.lemmas.List.{drop_at}
 use Rattle.std.proofs.Math.Dec.{eqb-suc-zero}
 use Rattle.pg_base.specs.declared.token.Sign.{Sign}
 use Rattle.pg_base.specs.declared.token.Sign.TheVariants as sign
-use Rattle.pg_base.specs.declared.token.TokenKind.{TokenKind}
 use Rattle.pg_base.specs.declared.token.TokenKind.TheVariants as token
 use Rattle.pg_base.specs.declared.token.Wanted.{Wanted}
 use Rattle.pg_base.specs.declared.token.Wanted.TheVariants as wanted
 use Rattle.pg_base.specs.Tokens.{Word}
-use Rattle.pg_script.specs.declared.fault.ScriptFault.{ScriptFault}
 use Rattle.pg_script.specs.declared.fault.ScriptFault.TheVariants.{Expected, Deep}
 use Rattle.pg_script.specs.declared.mark.Mark.{Mark}
 use Rattle.pg_script.specs.declared.mark.Mark.TheVariants.{Open, Close, Free, Number}
@@ -19,8 +17,8 @@ use Rattle.pg_script.specs.declared.span.Until.{Until}
 use Rattle.pg_script.specs.declared.span.Until.TheVariants as until
 use Rattle.pg_script.specs.Data.{Part, Expression}
 use Rattle.pg_script.specs.Marks.{mark, place}
-use Rattle.pg_script.specs.Lines.{Read, and_then, with_first, stops, may_end, more, length_step, length_until, part_of, some_part, part_at, arg_length, arg_step, args_from, with_name, after_close, closed, expr_at}
-use Rattle.pg_script.proofs.Standing.{At, Missing, Stands, stands_map, stands_behind, Inline, inline_append, Reader, headed, SameHead, same_head, Fit, Takes, Reaches, IsSome, Whatever, some_append, PieceAnswer, Piece, HeadPiece, piece_head, piece_on, same_piece_answer, chained, Leads, lead_by}
+use Rattle.pg_script.specs.Lines.{Read, and_then, with_first, stops, may_end, more, length_until, part_of, some_part, part_at, arg_step, args_from, with_name, after_close, closed, expr_at}
+use Rattle.pg_script.proofs.Standing.{At, Stands, stands_map, stands_behind, Inline, inline_append, Reader, Fit, Takes, Reaches, IsSome, Whatever, PieceAnswer, Piece, HeadPiece, piece_head, same_piece_answer, chained, Leads, lead_by}
 use Rattle.pg_script.proofs.Found.{clash, inj}
 
 -- ---- tokens to go on with
@@ -162,9 +160,11 @@ closers-length (suc k) = ap suc (closers-length k)
 
 missing-closes : (u : Until) (base depth : ℕ) → base ≤ depth → Closes u base depth []
 missing-closes u base depth le =
-    let e : base + (depth - base) ≡ depth = omega (arith, le) in
-    (closers (depth - base), closers-inline (depth - base),
-    λ n tail s. ap (λ d. length_until u n base d (closers (depth - base) ++ tail)) (sym e) ∙ close-read u n base (depth - base) tail s ∙ ap (λ k. Ok k) (sym (closers-length (depth - base))))
+    let e : base + (depth - base) ≡ depth = omega (arith, le) in (
+      closers (depth - base),
+      closers-inline (depth - base),
+      λ n tail s. ap (λ d. length_until u n base d (closers (depth - base) ++ tail)) (sym e) ∙ close-read u n base (depth - base) tail s ∙ ap (λ k. Ok k) (sym (closers-length (depth - base))),
+    )
 
 by-length-head : (u : Until) (base depth end : ℕ) (w : Word) (ws : List Word) (r : Read ℕ) → base ≤ depth → HeadLength u (λ n xs. length_until u n base depth (w ∷ xs)) w.at end ws r → LengthAnswer u base depth end (w ∷ ws) r
 by-length-head u base depth end w ws (Ok n) le h = (w ∷ h.0, h.1, ap (λ t. w ∷ t) h.2, h.3, h.4, h.5)
@@ -212,16 +212,19 @@ name-part until.Comma end tail s = one-more (length_until until.Comma end 0 0 ta
 name-part until.Assign end tail s = one-more (length_until until.Assign end 0 0 tail) 0 (stop-read until.Assign end 0 0 tail refl s)
 name-part until.End end tail s = one-more (length_until until.End end 0 0 tail) 0 (stop-read until.End end 0 0 tail refl s)
 
-pub part_begin : (what : Wanted) (u : Until) → Reaches (Stop u) (part_reader what u) []
-part_begin what u = (some_name ∷ [], (refl, refl, tt), λ end tail s. part-takes what u end some_name [] tail (name-part u end tail s))
+pub part_name : (what : Wanted) (u : Until) (end : ℕ) (tail : List Word) → Stop u tail → Takes (part_reader what u) (λ x. Unit {0}) end (some_name ∷ []) tail
+part_name what u end tail s = part-takes what u end some_name [] tail (name-part u end tail s)
+
+part-begin : (what : Wanted) (u : Until) → Reaches (Stop u) (part_reader what u) []
+part-begin what u = (some_name ∷ [], (refl, refl, tt), λ end tail s. part_name what u end tail s)
 
 part-reaches : (what : Wanted) (u : Until) (fr : List Word) → Closes u 0 0 fr → Reaches (Stop u) (part_reader what u) fr
-part-reaches what u [] c = part_begin what u
+part-reaches what u [] c = part-begin what u
 part-reaches what u (v ∷ fr) c = (c.0, c.1, λ end tail s. part-takes what u end v (fr ++ c.0) tail (c.2 end tail s))
 
 part-stands : (what : Wanted) (u : Until) (end : ℕ) (ws : List Word) → Stands (Reaches (Stop u) (part_reader what u)) end ws (Expected (place end ws) what)
-part-stands what u end [] = (refl, part_begin what u)
-part-stands what u end (w ∷ ws) = inl (refl, part_begin what u)
+part-stands what u end [] = (refl, part-begin what u)
+part-stands what u end (w ∷ ws) = inl (refl, part-begin what u)
 
 abbrev Alike : {X : Type 0} → X → X → Type 0
 Alike x y = Unit {0}
@@ -331,9 +334,12 @@ open-by : (depth end : ℕ) (ws : List Word) (r : Read ℕ) → LengthAnswer unt
 open-by depth end ws (Ok n) h = open-ok depth end n ws h.0 h.1 h.2 h.3 h.4 h.5
 open-by depth end ws (Err e) h =
     stands_map (Closes until.Close (depth + 1) (depth + 1)) (λ fr. (more : List Word) × Inline more × OpenArgument depth (fr ++ more)) end ws e
-    (λ fr c. (c.0 ++ close_word ∷ [], inline_append c.0 (close_word ∷ []) c.1 (refl, refl, tt),
-    let P : List Word → Type 0 = OpenArgument depth in
-    subst P (append_assoc fr c.0 (close_word ∷ [])) (λ n tail. inside-read n depth (fr ++ c.0) tail (c.2 n (close_word ∷ tail) refl)))) h
+    (λ fr c. (
+      c.0 ++ close_word ∷ [],
+      inline_append c.0 (close_word ∷ []) c.1 (refl, refl, tt),
+      let P : List Word → Type 0 = OpenArgument depth in
+          subst P (append_assoc fr c.0 (close_word ∷ [])) (λ n tail. inside-read n depth (fr ++ c.0) tail (c.2 n (close_word ∷ tail) refl)),
+    )) h
 
 from-open : (depth at end : ℕ) (ws : List Word) (r : Read ℕ) (c : Bool) → nat_le 100 depth ≡ c → OpenAnswer depth end ws r → ArgumentAnswer depth Open at end ws (if c then Err (Deep at) else r)
 from-open depth at end ws r true is h = inl refl
@@ -375,10 +381,14 @@ none-takes : (depth end : ℕ) (tail : List Word) → Shut tail → Takes (args_
 none-takes depth end tail s = (0, [], tt, λ room le. shut-read end depth tail s)
 
 first-takes : (depth end : ℕ) (w : Word) (u front tail : List Word) → IsArgument depth (mark w) w.at u → Takes (args_reader depth) (λ x. Unit {0}) end front tail → Takes (args_reader depth) (λ x. Unit {0}) end (w ∷ u ++ front) tail
-first-takes depth end w u front tail is t =
-    (t.0, part_of end (suc (length u)) (w ∷ u ++ (front ++ tail)) ∷ t.1, tt, λ room le.
-    ap (λ z. args_from end depth 0 (w ∷ z)) (append_assoc u front tail) ∙ argument-read end depth w u (front ++ tail) is
-    ∙ ap (with_first (part_of end (suc (length u)) (w ∷ u ++ (front ++ tail)))) (t.3 room le))
+first-takes depth end w u front tail is t = (
+  t.0,
+  part_of end (suc (length u)) (w ∷ u ++ (front ++ tail)) ∷ t.1,
+  tt,
+  λ room le.
+      ap (λ z. args_from end depth 0 (w ∷ z)) (append_assoc u front tail) ∙ argument-read end depth w u (front ++ tail) is
+      ∙ ap (with_first (part_of end (suc (length u)) (w ∷ u ++ (front ++ tail)))) (t.3 room le),
+)
 
 abbrev ArgsAnswer : (depth end : ℕ) → List Word → Read (List Part × List Word) → Type 0
 ArgsAnswer depth end ws r = PieceAnswer Whatever Shut (λ x y. Unit {0}) (args_reader depth) end ws r
@@ -389,8 +399,12 @@ first-answer depth end p w u rest (Ok q) is h =
 first-answer depth end p w u rest (Err e) is h =
     stands_behind (Reaches Shut (args_reader depth)) end (w ∷ u) rest e
     (stands_map (Reaches Shut (args_reader depth)) (λ fr. Reaches Shut (args_reader depth) (w ∷ u ++ fr)) end rest e
-    (λ fr c. (c.0, c.1, λ n tail s. let P : List Word → Type 0 = λ z. Takes (args_reader depth) (λ x. Unit {0}) n (w ∷ z) tail in
-    subst P (sym (append_assoc u fr c.0)) (first-takes depth n w u (fr ++ c.0) tail is (c.2 n tail s)))) h)
+    (λ fr c. (
+      c.0,
+      c.1,
+      λ n tail s. let P : List Word → Type 0 = λ z. Takes (args_reader depth) (λ x. Unit {0}) n (w ∷ z) tail in
+          subst P (sym (append_assoc u fr c.0)) (first-takes depth n w u (fr ++ c.0) tail is (c.2 n tail s)),
+    )) h)
 
 args-begin : (depth : ℕ) → Reaches Shut (args_reader depth) []
 args-begin depth = ([], tt, λ n tail s. none-takes depth n tail s)
@@ -401,18 +415,22 @@ args-step depth end w ws (Ok zero) h rec = ([], tt, refl, λ n tail fit. none-ta
 args-step depth end w ws (Ok (suc n)) h rec =
     let e : suc n - 1 ≡ length h.0 = omega (arith, h.3) in
     let is : arg_step end (w ∷ ws) (λ k. args_from end depth (k - 1) ws) (Ok (suc n)) ≡ with_first (part_of end (suc n) (w ∷ ws)) (args_from end depth 0 h.1) =
-        arg-some end n (w ∷ ws) (λ k. args_from end depth (k - 1) ws)
-        ∙ ap (λ k. with_first (part_of end (suc n) (w ∷ ws)) (args_from end depth k ws)) e
-        ∙ ap (λ z. with_first (part_of end (suc n) (w ∷ ws)) (args_from end depth (length h.0) z)) h.2
-        ∙ ap (with_first (part_of end (suc n) (w ∷ ws))) (skip-over end depth h.0 h.1) in
+    arg-some end n (w ∷ ws) (λ k. args_from end depth (k - 1) ws)
+    ∙ ap (λ k. with_first (part_of end (suc n) (w ∷ ws)) (args_from end depth k ws)) e
+    ∙ ap (λ z. with_first (part_of end (suc n) (w ∷ ws)) (args_from end depth (length h.0) z)) h.2
+    ∙ ap (with_first (part_of end (suc n) (w ∷ ws))) (skip-over end depth h.0 h.1) in
     let P : Read (List Part × List Word) → Type 0 = ArgsAnswer depth end (w ∷ ws) in
     let Q : List Word → Type 0 = λ z. ArgsAnswer depth end (w ∷ z) (with_first (part_of end (suc n) (w ∷ ws)) (args_from end depth 0 h.1)) in
     subst P (sym is) (subst Q (sym h.2) (first-answer depth end (part_of end (suc n) (w ∷ ws)) w h.0 h.1 (args_from end depth 0 h.1) h.4 (rec h.1 (omega (arith, ap length h.2, length-append h.0 h.1)))))
 args-step depth end w ws (Err e) (inl h) rec = inl (h, args-begin depth)
 args-step depth end w ws (Err e) (inr h) rec =
     inr (stands_map (Argues depth (mark w) w.at) (λ fr. Reaches Shut (args_reader depth) (w ∷ fr)) end ws e
-    (λ fr c. (c.0, c.1, λ n tail s. let P : List Word → Type 0 = λ z. Takes (args_reader depth) (λ x. Unit {0}) n (w ∷ z) tail in
-    subst P (append-nil (fr ++ c.0)) (first-takes depth n w (fr ++ c.0) [] tail c.2 (none-takes depth n tail s)))) h)
+    (λ fr c. (
+      c.0,
+      c.1,
+      λ n tail s. let P : List Word → Type 0 = λ z. Takes (args_reader depth) (λ x. Unit {0}) n (w ∷ z) tail in
+          subst P (append-nil (fr ++ c.0)) (first-takes depth n w (fr ++ c.0) [] tail c.2 (none-takes depth n tail s)),
+    )) h)
 
 args-by : (k depth end : ℕ) (ws : List Word) → length ws ≤ k → ArgsAnswer depth end ws (args_from end depth 0 ws)
 args-by k depth end [] le = ([], tt, refl, λ n tail fit. none-takes depth n tail (shut_head [] tail tt fit))
@@ -425,9 +443,11 @@ args-by (suc k) depth end (w ∷ ws) le =
 abbrev pub expr_reader : ℕ → Reader (Expression × List Word)
 expr_reader depth room end ws = expr_at end depth ws
 
-pub expr_begin : (depth : ℕ) → Reaches Shut (expr_reader depth) []
-expr_begin depth =
-    (some_name ∷ [], (refl, refl, tt), λ end tail s. (0, record { name = some_name; args = [] }, tt, λ room le. ap (with_name some_name) (shut-read end depth tail s)))
+pub expr_name : (depth end : ℕ) (tail : List Word) → Shut tail → Takes (expr_reader depth) (λ x. Unit {0}) end (some_name ∷ []) tail
+expr_name depth end tail s = (0, record { name = some_name; args = [] }, tt, λ room le. ap (with_name some_name) (shut-read end depth tail s))
+
+expr-begin : (depth : ℕ) → Reaches Shut (expr_reader depth) []
+expr-begin depth = (some_name ∷ [], (refl, refl, tt), λ end tail s. expr_name depth end tail s)
 
 named-takes : (depth end : ℕ) (w : Word) (front tail : List Word) → Takes (args_reader depth) (λ x. Unit {0}) end front tail → Takes (λ room n ws. with_name w (args_from n depth 0 ws)) (λ x. Unit {0}) end front tail
 named-takes depth end w front tail t = (t.0, record { name = w; args = t.1 }, tt, λ room le. ap (with_name w) (t.3 room le))
@@ -530,9 +550,9 @@ closed-answer depth end ws r h =
     (lead_by IsSome Shut Whatever (λ x y. Unit {0}) (λ x y. Unit {0}) (expr_reader depth) close_reader closes 0 end ws r h (λ x. close_piece (λ a b. Unit {0}) x 0 tt)))
 
 expr-by : (depth end : ℕ) (ws : List Word) → ExprAnswer depth end ws (expr_at end depth ws)
-expr-by depth end [] = (refl, expr_begin depth)
+expr-by depth end [] = (refl, expr-begin depth)
 expr-by depth end (w ∷ ws) =
-    piece_head Shut (λ x y. Unit {0}) (expr_reader depth) end w ws (expr_mark end depth w (mark w) ws (expr_at end (depth + 1) ws)) (expr_begin depth)
+    piece_head Shut (λ x y. Unit {0}) (expr_reader depth) end w ws (expr_mark end depth w (mark w) ws (expr_at end (depth + 1) ws)) (expr-begin depth)
     (expr-head depth end w (mark w) ws (closed-answer (depth + 1) end ws (expr_at end (depth + 1) ws) (expr-by (depth + 1) end ws)))
 
 pub expr_piece : (depth room : ℕ) → Piece IsSome Shut (λ x y. Unit {0}) room (expr_reader depth)

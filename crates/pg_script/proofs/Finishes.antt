@@ -1,21 +1,19 @@
 -- What stands behind the words of moves, where it is begun, can be finished.
-use Rattle.std.proofs.Common.{◌≡◌, ◌∙◌, ℕ, zero, suc, ◌+◌, ◌-◌, ◌≤◌, Bool, true, false, List, [], ◌∷◌, ◌++◌, refl, sym, ap, subst, arith, append_assoc, Option, Some, None, Ok, Err, if◌then◌else◌, nat_le, ◌⊎◌, inl, inr}
+use Rattle.std.proofs.Common.{◌≡◌, ◌∙◌, ℕ, zero, suc, ◌+◌, ◌-◌, ◌≤◌, Bool, true, false, List, [], ◌∷◌, ◌++◌, refl, ap, subst, arith, Option, Some, None, Ok, Err, if◌then◌else◌, nat_le, inl, inr}
 use Rattle.pg_base.specs.declared.token.Sign.TheVariants as sign
 use Rattle.pg_base.specs.declared.token.Wanted.TheVariants as wanted
 use Rattle.pg_base.specs.Tokens.{Word}
 use Rattle.pg_script.specs.declared.fault.ScriptFault.{ScriptFault}
 use Rattle.pg_script.specs.declared.fault.ScriptFault.TheVariants.{Expected, TooMany, Deep}
 use Rattle.pg_script.specs.declared.mark.Mark.{Mark}
-use Rattle.pg_script.specs.declared.mark.Mark.TheVariants.{Open, Close, Free, Assign, At as AtWord, With, LeftArrow, Comma, CloseBracket, OpenBracket, Colon}
+use Rattle.pg_script.specs.declared.mark.Mark.TheVariants.{Open, Close, Assign, At as AtWord, With, Colon}
 use Rattle.pg_script.specs.declared.span.Until.TheVariants as until
-use Rattle.pg_script.specs.declared.head.Head.{Head}
-use Rattle.pg_script.specs.declared.head.Head.TheVariants as head
-use Rattle.pg_script.specs.Data.{Part, Expression, Rule, Shape, plain, exact, intro, apply, rewrite, split, uses, symm, have, revert, by_cases, unknown}
+use Rattle.pg_script.specs.Data.{Part, Expression, Shape, intro, apply, split, have, revert, by_cases, unknown}
 use Rattle.pg_script.specs.Marks.{mark, is_name}
-use Rattle.pg_script.specs.Lines.{Read, and_then, unless_fault, with_first, before, part_at, expr_at, ended, name_at, names_fault, steps_fault, place_at, deep_fault, rule_at, no_rule, rule_end, rules_at, bracketed_rules, no_term, terms_after, terms_at, exact_at, apply_at, rewrite_at, intro_at, names_after, split_at, have_after, have_formula, have_of, cases_of, shape_at}
-use Rattle.pg_script.proofs.Found.{clash, inj, and_then_ok}
-use Rattle.pg_script.proofs.Standing.{At, Stands, stands_map, Inline, Reader, Fine, Extends, Answer, Ends, HeadAnswer, headed, by_head, goes_on, same_answer, Fit, Takes, Reaches, IsSome, Whatever, PieceAnswer, Piece, HeadPiece, piece_head, piece_on, chained, fine_join, takes_join, Follows, then_ends, Leads, then_piece}
-use Rattle.pg_script.proofs.Closings.{sign_word, some_name, Stop, Shut, part_reader, part_begin, part_piece, expr_reader, expr_begin, expr_piece}
+use Rattle.pg_script.specs.Lines.{Read, and_then, unless_fault, part_at, ended, name_at, names_fault, steps_fault, place_at, deep_fault, exact_at, apply_at, intro_at, names_after, split_at, have_after, have_formula, have_of, cases_of}
+use Rattle.pg_script.proofs.Found.{clash, and_then_ok}
+use Rattle.pg_script.proofs.Standing.{stands_map, Inline, Reader, Fine, Extends, Answer, Ends, HeadAnswer, headed, by_head, goes_on, same_answer, Takes, Reaches, IsSome, Whatever, PieceAnswer, Piece, HeadPiece, piece_head, chained, Follows, then_ends}
+use Rattle.pg_script.proofs.Closings.{sign_word, some_name, Stop, Shut, part_reader, part_piece, expr_reader, expr_piece}
 
 -- ---- readers whose value is changed
 

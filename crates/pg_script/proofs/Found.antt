@@ -72,11 +72,11 @@ hint-laid sample end budget column room w ws p k h =
 
 -- a block that was read deeper in, with one block fewer to nest
 pub record Inside (sample : Bool) (end budget room : ℕ) (v : Word) (vs : List Word) (p : List Entry × ℕ × List Word) : Type 0 where
-  fewer : ℕ
-  is : budget ≡ suc fewer
-  more : List Word
-  whole : vs ≡ more ++ p.2
-  inner : IsBlock sample end fewer v.column room p.1 (v ∷ more) p.2 p.0
+  pub fewer : ℕ
+  pub is : budget ≡ suc fewer
+  pub more : List Word
+  pub whole : vs ≡ more ++ p.2
+  pub inner : IsBlock sample end fewer v.column room p.1 (v ∷ more) p.2 p.0
 
 abbrev pub Insides : Bool → (end budget : ℕ) → (ℕ → List Word → ReadEntries) → Type 0
 Insides sample end budget inner = (room : ℕ) (v : Word) (vs : List Word) (p : List Entry × ℕ × List Word) → inner room (v ∷ vs) ≡ Ok p → Inside sample end budget room v vs p

@@ -1,5 +1,5 @@
 -- A hint that is begun can be finished.
-use Rattle.std.proofs.Common.{◌≡◌, ◌∙◌, ℕ, zero, suc, ◌+◌, ◌≤◌, Bool, true, false, List, [], ◌∷◌, ◌++◌, refl, sym, ap, subst, arith, Option, Some, None, Ok, Err, if◌then◌else◌, IsTrue, ◌⊎◌, inl, inr}
+use Rattle.std.proofs.Common.{◌≡◌, ℕ, Bool, true, false, List, [], ◌∷◌, refl, sym, ap, subst, Option, Some, None, Ok, Err, if◌then◌else◌, IsTrue, ◌⊎◌, inl, inr}
 use Rattle.std.specs.Prelude.{is_some, codes}
 use Rattle.pg_base.specs.declared.token.Sign.TheVariants as sign
 use Rattle.pg_base.specs.declared.token.TokenKind.TheVariants as token
@@ -13,9 +13,9 @@ use Rattle.pg_script.specs.declared.hint.HintOption.{HintOption}
 use Rattle.pg_script.specs.declared.hint.HintOption.TheVariants as option
 use Rattle.pg_script.specs.Data.{Remark}
 use Rattle.pg_script.specs.Marks.{mark}
-use Rattle.pg_script.specs.Lines.{Read, and_then, after_close, ended, with_option, expected_or, option_of, value_of, option_at, value_at, after_assign, flag_at, maybe_flag, flags_at, is_given, text_at, hint_at}
+use Rattle.pg_script.specs.Lines.{Read, and_then, after_close, ended, with_option, expected_or, option_of, value_of, option_at, value_at, after_assign, flag_at, maybe_flag, is_given, text_at, hint_at}
 use Rattle.pg_script.proofs.Found.{inj, and_then_ok}
-use Rattle.pg_script.proofs.Standing.{At, Stands, stands_map, Inline, Reader, Fine, Extends, Answer, Ends, HeadAnswer, headed, by_head, goes_on, same_ends, SameHead, Fit, Takes, Reaches, IsSome, Whatever, PieceAnswer, Piece, HeadPiece, piece_head, piece_on, chained, fine_join, takes_join, Follows, then_by, Leads, then_piece}
+use Rattle.pg_script.proofs.Standing.{stands_map, Inline, Reader, Fine, Ends, HeadAnswer, headed, by_head, goes_on, same_ends, Fit, Takes, Reaches, IsSome, Whatever, PieceAnswer, Piece, HeadPiece, piece_head, piece_on, chained, takes_join, Follows, then_by, Leads, then_piece}
 use Rattle.pg_script.proofs.Closings.{sign_word, name_word, close_word, close_reader, close_begin, close_piece}
 use Rattle.pg_script.proofs.Finishes.{ended_reader, ended_ends}
 

@@ -1,5 +1,5 @@
 -- A script that is begun can be finished: what stands before a fault begins one, the limits on steps and blocks aside.
-use Rattle.std.proofs.Common.{◌≡◌, ◌∙◌, ℕ, zero, suc, ◌+◌, ◌-◌, ◌≤◌, ◌<◌, Bool, true, false, ◌&&◌, ◌||◌, List, [], ◌∷◌, ◌++◌, length, take, drop, refl, sym, ap, subst, arith, append_assoc, append-nil, length-append, Option, Some, None, Ok, Err, if◌then◌else◌, IsTrue, IsFalse, ◌==◌, nat_lt, nat_le, not, ◌⊎◌, inl, inr}
+use Rattle.std.proofs.Common.{◌≡◌, ◌∙◌, ℕ, zero, suc, ◌+◌, ◌-◌, ◌≤◌, ◌<◌, Bool, true, false, ◌&&◌, ◌||◌, List, [], ◌∷◌, ◌++◌, length, take, drop, refl, sym, ap, subst, arith, append_assoc, append-nil, length-append, Some, None, Ok, Err, if◌then◌else◌, IsTrue, IsFalse, ◌==◌, nat_lt, nat_le, not, ◌⊎◌, inl, inr}
 use Rattle.std.specs.Prelude.{codes}
 use Rattle.std.proofs.lemmas.Bool.Decides.{nat_tests}
 use Rattle.std.proofs.lemmas.List.{take-append-drop}
@@ -95,17 +95,21 @@ hint-lays sample column w ws next k g e f =
 
 bullet-lays : (sample : Bool) (column : ℕ) (w v : Word) (vs next : List Word) → kind_of sample w ≡ kind.Focus → IsTrue (stands_deeper column w v) → LaysBlock sample v.column next (v ∷ vs) → Lays sample column next (w ∷ v ∷ vs)
 bullet-lays sample column w v vs next k d h =
-    λ left. let a = h left in
-    (suc a.0, λ budget room b r.
-    let P : ℕ → Type 0 = λ n. (after : ℕ) × (x : Entry) × (left ≤ after) × IsItem sample 0 n column room after (w ∷ v ∷ vs) next x in
-    with_room P a.0 budget (λ n l. let c = a.1 n room l (omega (arith, r)) in (c.0, focus (entries_of c.1), c.2, a_bullet n column room c.0 w v vs next c.1 k d c.3)) b)
+    λ left. let a = h left in (
+      suc a.0,
+      λ budget room b r.
+          let P : ℕ → Type 0 = λ n. (after : ℕ) × (x : Entry) × (left ≤ after) × IsItem sample 0 n column room after (w ∷ v ∷ vs) next x in
+          with_room P a.0 budget (λ n l. let c = a.1 n room l (omega (arith, r)) in (c.0, focus (entries_of c.1), c.2, a_bullet n column room c.0 w v vs next c.1 k d c.3)) b,
+    )
 
 branch-lays : (sample : Bool) (column : ℕ) (w v : Word) (vs next : List Word) → kind_of sample w ≡ kind.Branch → IsTrue (stands_deeper column w v) → LaysBlock sample v.column next (v ∷ vs) → Lays sample column next (w ∷ v ∷ vs)
 branch-lays sample column w v vs next k d h =
-    λ left. let a = h left in
-    (suc a.0, λ budget room b r.
-    let P : ℕ → Type 0 = λ n. (after : ℕ) × (x : Entry) × (left ≤ after) × IsItem sample 0 n column room after (w ∷ v ∷ vs) next x in
-    with_room P a.0 budget (λ n l. let c = a.1 n room l (omega (arith, r)) in (c.0, branch (entries_of c.1), c.2, a_branch n column room c.0 w v vs next c.1 k d c.3)) b)
+    λ left. let a = h left in (
+      suc a.0,
+      λ budget room b r.
+          let P : ℕ → Type 0 = λ n. (after : ℕ) × (x : Entry) × (left ≤ after) × IsItem sample 0 n column room after (w ∷ v ∷ vs) next x in
+          with_room P a.0 budget (λ n l. let c = a.1 n room l (omega (arith, r)) in (c.0, branch (entries_of c.1), c.2, a_branch n column room c.0 w v vs next c.1 k d c.3)) b,
+    )
 
 last-lays : (sample : Bool) (column : ℕ) (ws next : List Word) → Lays sample column next ws → EndsBlock column next → LaysBlock sample column next ws
 last-lays sample column ws next h e =
@@ -113,20 +117,24 @@ last-lays sample column ws next h e =
 
 line-lays : (sample : Bool) (column : ℕ) (ws : List Word) (v : Word) (vs next : List Word) → Lays sample column (v ∷ vs ++ next) ws → BeginsItem column v → LaysBlock sample column next (v ∷ vs) → LaysBlock sample column next (ws ++ v ∷ vs)
 line-lays sample column ws v vs next h n k =
-    λ left. let b = k left in let a = h b.0 in
-    (a.0 + b.0, λ budget room p q.
-    let c = a.1 budget room (omega (arith, p)) (omega (arith, q)) in
-    let d = b.1 budget c.0 (omega (arith, p)) c.2 in
-    (d.0, c.1 ∷ d.1, d.2, line budget column room c.0 d.0 ws vs next v c.1 d.1 c.3 n d.3))
+    λ left. let b = k left in let a = h b.0 in (
+      a.0 + b.0,
+      λ budget room p q.
+          let c = a.1 budget room (omega (arith, p)) (omega (arith, q)) in
+          let d = b.1 budget c.0 (omega (arith, p)) c.2 in
+          (d.0, c.1 ∷ d.1, d.2, line budget column room c.0 d.0 ws vs next v c.1 d.1 c.3 n d.3),
+    )
 
 semicolon-lays : (sample : Bool) (column : ℕ) (ws : List Word) (s v : Word) (vs next : List Word) → Lays sample column (s ∷ v ∷ vs ++ next) ws → Separates column s → IsFalse (v.first && nat_lt v.column column)
     → LaysBlock sample column next (v ∷ vs) → LaysBlock sample column next (ws ++ s ∷ v ∷ vs)
 semicolon-lays sample column ws s v vs next h n f k =
-    λ left. let b = k left in let a = h b.0 in
-    (a.0 + b.0, λ budget room p q.
-    let c = a.1 budget room (omega (arith, p)) (omega (arith, q)) in
-    let d = b.1 budget c.0 (omega (arith, p)) c.2 in
-    (d.0, c.1 ∷ d.1, d.2, semicolon budget column room c.0 d.0 ws vs next s v c.1 d.1 c.3 n f d.3))
+    λ left. let b = k left in let a = h b.0 in (
+      a.0 + b.0,
+      λ budget room p q.
+          let c = a.1 budget room (omega (arith, p)) (omega (arith, q)) in
+          let d = b.1 budget c.0 (omega (arith, p)) c.2 in
+          (d.0, c.1 ∷ d.1, d.2, semicolon budget column room c.0 d.0 ws vs next s v c.1 d.1 c.3 n f d.3),
+    )
 
 -- ---- what is laid out is so, too, with other tokens behind it
 
@@ -287,9 +295,11 @@ alone sample end budget column room left front rest x i =
 -- it, a semicolon, and a move
 semicolon-begin : (sample : Bool) (end budget column room left : ℕ) (front rs : List Word) (r : Word) (x : Entry) → IsItem sample end budget column room left front (r ∷ rs) x → Separates column r → ResumesBlock sample column front (r ∷ [])
 semicolon-begin sample end budget column room left front rs r x i n =
-    let P : List Word → Type 0 = LaysBlock sample column [] in
-    (rfl_word 0 ∷ [], subst P (sym (append_assoc front (r ∷ []) (rfl_word 0 ∷ [])))
-    (semicolon-lays sample column front r (rfl_word 0) [] [] (relay-item (r ∷ rfl_word 0 ∷ []) i refl) n refl (rfl-block sample column 0)))
+    let P : List Word → Type 0 = LaysBlock sample column [] in (
+      rfl_word 0 ∷ [],
+      subst P (sym (append_assoc front (r ∷ []) (rfl_word 0 ∷ [])))
+          (semicolon-lays sample column front r (rfl_word 0) [] [] (relay-item (r ∷ rfl_word 0 ∷ []) i refl) n refl (rfl-block sample column 0)),
+    )
 
 line-from : (sample : Bool) (end budget column room left : ℕ) (front rs : List Word) (r : Word) (x : Entry) (e : ScriptFault) → IsItem sample end budget column room left front (r ∷ rs) x → BeginsItem column r → BlockAnswer sample column end r rs e
     → Stands (ResumesBlock sample column front) end (r ∷ rs) e

@@ -1,5 +1,5 @@
 -- The rules of `rw` and the terms of `use`, where they are begun, can be finished, and so can each form of a move.
-use Rattle.std.proofs.Common.{◌≡◌, ◌∙◌, ℕ, zero, suc, ◌+◌, ◌≤◌, Bool, true, false, List, [], ◌∷◌, ◌++◌, refl, sym, ap, subst, arith, Option, Some, None, Ok, Err, if◌then◌else◌, ◌⊎◌, inl, inr}
+use Rattle.std.proofs.Common.{◌≡◌, ◌∙◌, ℕ, zero, suc, Bool, true, false, List, [], ◌∷◌, ◌++◌, refl, ap, subst, Ok, Err, if◌then◌else◌, inl, inr}
 use Rattle.pg_base.specs.declared.token.Sign.TheVariants as sign
 use Rattle.pg_base.specs.declared.token.Wanted.TheVariants as wanted
 use Rattle.pg_base.specs.Tokens.{Word}
@@ -10,12 +10,12 @@ use Rattle.pg_script.specs.declared.mark.Mark.TheVariants.{Open, Close, Free, Le
 use Rattle.pg_script.specs.declared.span.Until.TheVariants as until
 use Rattle.pg_script.specs.declared.head.Head.{Head}
 use Rattle.pg_script.specs.declared.head.Head.TheVariants as head
-use Rattle.pg_script.specs.Data.{Part, Expression, Rule, Shape, plain, exact, rewrite, uses, symm, unknown}
+use Rattle.pg_script.specs.Data.{Part, Expression, Rule, plain, exact, rewrite, uses, symm}
 use Rattle.pg_script.specs.Marks.{mark}
-use Rattle.pg_script.specs.Lines.{Read, and_then, with_first, before, part_at, expr_at, rule_at, no_rule, rule_end, rules_at, bracketed_rules, no_term, terms_after, terms_at, exact_at, shape_at}
+use Rattle.pg_script.specs.Lines.{Read, and_then, with_first, before, expr_at, rule_at, rule_end, rules_at, bracketed_rules, terms_after, terms_at, exact_at, shape_at}
 use Rattle.pg_script.proofs.Found.{clash, inj}
-use Rattle.pg_script.proofs.Standing.{At, Stands, stands_map, Inline, Reader, Fine, Extends, Answer, Ends, HeadAnswer, headed, by_head, goes_on, Fit, Takes, Reaches, IsSome, Whatever, PieceAnswer, Piece, HeadPiece, piece_head, piece_on, chained, fine_join, takes_join, Follows, then_ends, Leads, then_piece}
-use Rattle.pg_script.proofs.Closings.{sign_word, some_name, Stop, Shut, part_reader, part_begin, part_piece, expr_reader, expr_begin, expr_piece}
+use Rattle.pg_script.proofs.Standing.{At, stands_map, Reader, Fine, Extends, Answer, Ends, headed, by_head, goes_on, Fit, Takes, Reaches, IsSome, Whatever, PieceAnswer, Piece, HeadPiece, piece_head, piece_on, chained, fine_join, takes_join, Follows, then_ends, Leads, then_piece}
+use Rattle.pg_script.proofs.Closings.{sign_word, some_name, Stop, Shut, part_reader, part_name, part_piece, expr_reader, expr_name, expr_piece}
 use Rattle.pg_script.proofs.Finishes.{with_room, map_takes, map_piece, map_ends, ended_ends, exact_ends, apply_ends, intro_ends, split_ends, place_reader, place_ends, placed, placed_follows, placed_ends, have_ends, revert_ends, cases_ends, deep_answer}
 
 -- ---- one step more
@@ -84,11 +84,12 @@ terms-is : (room end : ℕ) (zs : List Word) → terms_at (suc room) end zs ≡ 
 terms-is room end zs = refl
 
 terms-begin : Extends terms_reader []
-terms-begin =
-    let b = part_begin wanted.Term until.Comma in
-    (some_name ∷ [], (refl, refl, tt),
-    suc-fine (chained (part_reader wanted.Term until.Comma) terms_more) terms_reader (some_name ∷ []) terms-is
-    (fine_join (part_reader wanted.Term until.Comma) terms_more (λ x. Unit {0}) (some_name ∷ []) [] (λ n. b.2 n [] refl) (λ x u. more-fine x)))
+terms-begin = (
+  some_name ∷ [],
+  (refl, refl, tt),
+  suc-fine (chained (part_reader wanted.Term until.Comma) terms_more) terms_reader (some_name ∷ []) terms-is
+      (fine_join (part_reader wanted.Term until.Comma) terms_more (λ x. Unit {0}) (some_name ∷ []) [] (λ n. part_name wanted.Term until.Comma n [] refl) (λ x u. more-fine x)),
+)
 
 abbrev no_term_mark : Mark → (at : ℕ) → ScriptFault
 no_term_mark m at = elim m [ Comma ↦ Expected at wanted.Term | Close ↦ Expected at wanted.Term | _ ↦ TooMany at ]
@@ -120,7 +121,7 @@ abbrev ruled : (Expression → Rule) → Reader (Rule × List Word)
 ruled k room n ws = and_then (expr_at n 0 ws) (λ p. Ok (k p.0, p.1))
 
 rule-takes : (end : ℕ) (tail : List Word) → Shut tail → Takes rule_reader (λ x. Unit {0}) end (some_name ∷ []) tail
-rule-takes end tail s = let b = expr_begin 0 in map_takes (expr_reader 0) forward end (some_name ∷ []) tail (b.2 end tail s)
+rule-takes end tail s = map_takes (expr_reader 0) forward end (some_name ∷ []) tail (expr_name 0 end tail s)
 
 rule-begin : Reaches Shut rule_reader []
 rule-begin = (some_name ∷ [], (refl, refl, tt), rule-takes)

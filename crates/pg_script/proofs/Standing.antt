@@ -1,6 +1,5 @@
 -- Faults that stand no later than they must: the tokens before them can be gone on with.
-use Rattle.std.proofs.Common.{◌≡◌, ◌∙◌, ℕ, zero, suc, ◌+◌, ◌≤◌, Bool, true, false, List, [], ◌∷◌, ◌++◌, refl, sym, ap, subst, arith, append_assoc, Ok, Err, ◌⊎◌, inl, inr}
-use Rattle.pg_base.specs.declared.token.Wanted.{Wanted}
+use Rattle.std.proofs.Common.{◌≡◌, ◌∙◌, ℕ, ◌+◌, ◌≤◌, false, List, [], ◌∷◌, ◌++◌, refl, sym, ap, subst, arith, append_assoc, Ok, Err, ◌⊎◌, inl, inr}
 use Rattle.pg_base.specs.Tokens.{Word}
 use Rattle.pg_script.specs.declared.fault.ScriptFault.{ScriptFault}
 use Rattle.pg_script.specs.declared.fault.ScriptFault.TheVariants.{TooLong, Lex, Expected, TooMany, Deep, OutOfMemory}
@@ -8,7 +7,6 @@ use Rattle.pg_script.specs.Marks.{place}
 use Rattle.pg_script.specs.Lines.{Read, and_then}
 use Rattle.pg_script.specs.Blocks.{is_semicolon}
 use Rattle.pg_script.specs.Grammar.{GoesOn}
-use Rattle.pg_script.proofs.Found.{clash}
 
 -- ---- where a fault stands
 
@@ -234,8 +232,11 @@ then_by A F R f g s room end ws (Ok p) h k =
     subst P (sym h.2) (then-ok F R f g s p.0 end p.1 h.0 q h.3 (k p refl end p.1))
 then_by A F R f g s room end ws (Err e) h k =
     stands_map (Reaches F f) (Extends (chained f g)) end ws e
-    (λ fr c. (c.0 ++ s.begin, inline_append c.0 s.begin c.1 s.inline,
-    let P : List Word → Type 0 = Fine (chained f g) in subst P (append_assoc fr c.0 s.begin) (fine_join f g (λ x. Unit {0}) (fr ++ c.0) s.begin (λ n. c.2 n s.begin s.fits) (λ y q. s.fine y)))) h
+    (λ fr c. (
+      c.0 ++ s.begin,
+      inline_append c.0 s.begin c.1 s.inline,
+      let P : List Word → Type 0 = Fine (chained f g) in subst P (append_assoc fr c.0 s.begin) (fine_join f g (λ x. Unit {0}) (fr ++ c.0) s.begin (λ n. c.2 n s.begin s.fits) (λ y q. s.fine y)),
+    )) h
 
 pub then_ends : {X M : Type 0} (A F : List Word → Type 0) (R : X → X → Type 0) (f : Reader (X × List Word)) (g : X → Reader M) → Follows F R g → (room : ℕ) → Piece A F R room f → ((x : X) → Ends room (g x)) → Ends room (chained f g)
 then_ends A F R f g s room h k = λ end ws. then_by A F R f g s room end ws (f room end ws) (h end ws) (λ p is. k p.0)
@@ -287,8 +288,8 @@ lead-ok F G R T f g s x end rest used (Ok p) t h = (
   some_append used h.0 h.1,
   ap (λ z. used ++ z) h.2 ∙ sym (append_assoc used h.0 p.1),
   λ n tail fit.
-    let P : List Word → Type 0 = λ z. Fit F z (h.0 ++ tail) in
-    takes_join f g (R x) (T p.0) n used h.0 tail (t n (h.0 ++ tail) (subst P (sym h.2) (lead-fit F h.0 p.1 tail h.1))) (λ y v. s.steady x y p.0 n h.0 tail v (h.3 n tail fit)),
+      let P : List Word → Type 0 = λ z. Fit F z (h.0 ++ tail) in
+      takes_join f g (R x) (T p.0) n used h.0 tail (t n (h.0 ++ tail) (subst P (sym h.2) (lead-fit F h.0 p.1 tail h.1))) (λ y v. s.steady x y p.0 n h.0 tail v (h.3 n tail fit)),
 )
 lead-ok F G R T f g s x end rest used (Err e) t h = stands_behind (Reaches G (chained f g)) end used rest e (lead-behind F G R T f g s x end rest used e t h)
 
@@ -300,9 +301,12 @@ lead_by {Y = Y} A F G R T f g s room end ws (Ok p) h k =
     subst P (sym h.2) (lead-ok F G R T f g s p.0 end p.1 h.0 q h.3 (k p.0 end p.1))
 lead_by A F G R T f g s room end ws (Err e) h k =
     stands_map (Reaches F f) (Reaches G (chained f g)) end ws e
-    (λ fr c. (c.0 ++ s.begin, inline_append c.0 s.begin c.1 s.inline,
-    λ n tail q. let P : List Word → Type 0 = λ z. Takes (chained f g) (λ y. Unit {0}) n z tail in
-    subst P (append_assoc fr c.0 s.begin) (takes_join f g (λ x. Unit {0}) (λ y. Unit {0}) n (fr ++ c.0) s.begin tail (c.2 n (s.begin ++ tail) (s.fits tail)) (λ y v. s.fine y n tail q)))) h
+    (λ fr c. (
+      c.0 ++ s.begin,
+      inline_append c.0 s.begin c.1 s.inline,
+      λ n tail q. let P : List Word → Type 0 = λ z. Takes (chained f g) (λ y. Unit {0}) n z tail in
+          subst P (append_assoc fr c.0 s.begin) (takes_join f g (λ x. Unit {0}) (λ y. Unit {0}) n (fr ++ c.0) s.begin tail (c.2 n (s.begin ++ tail) (s.fits tail)) (λ y v. s.fine y n tail q)),
+    )) h
 
 pub then_piece : {X Y : Type 0} (A F G : List Word → Type 0) (R : X → X → Type 0) (T : Y → Y → Type 0) (f : Reader (X × List Word)) (g : X → Reader (Y × List Word)) → Leads F G R T g → (room : ℕ) → Piece A F R room f
     → ((x : X) → Piece IsSome G T room (g x)) → Piece IsSome G T room (chained f g)
