@@ -1,7 +1,7 @@
 use crate::fault::ScriptFault;
 use crate::item::{Form, Item};
 use crate::script::{read_items, read_script};
-use pg_base::{LexFault, Wanted, tokens_of};
+use pg_base::{LexFault, Token, Wanted, tokens_of};
 use std::test::Fail;
 
 // What an item is to be: the word of a move, a block, or the text of a hint with its options.
@@ -277,6 +277,58 @@ fn a_formula_goes_to_the_sign_outside_parentheses(rt: HostRuntime) -> Result<(),
     Ok(())
 }
 
+fn are_texts(tokens: &[Token<'_>], wants: &[&str]) -> bool {
+    if tokens.len() != wants.len() {
+        return false;
+    }
+    for (token, want) in tokens.iter().zip(wants) {
+        if token.text != *want {
+            return false;
+        }
+    }
+    true
+}
+
+// Whether the single names of a form are these, in the order in which they stand.
+fn has_names(form: &Form<'_>, wants: &[&str]) -> bool {
+    match (form, wants) {
+        (Form::Intro(names), _) => are_texts(names.as_slice(), wants),
+        (Form::Apply { expr, place: Some(at) }, [e, h]) => expr.name.text == *e && at.text == *h,
+        (Form::Split { name, names }, [n, rest @ ..]) => {
+            name.text == *n && are_texts(names.as_slice(), rest)
+        }
+        (Form::Symm(Some(at)), [h]) => at.text == *h,
+        (Form::Have { name, formula: None, expr: Some(expr) }, [h, e]) => {
+            name.text == *h && expr.name.text == *e
+        }
+        (Form::Revert(name), [x]) => name.text == *x,
+        _ => false,
+    }
+}
+
+fn names_are(rt: HostRuntime, source: &str, wants: &[&str]) -> bool {
+    let Ok(script) = read_script(rt.alloc(), source, false) else {
+        return false;
+    };
+    match form_of(script.items.as_slice()) {
+        Some(form) => has_names(form, wants),
+        None => false,
+    }
+}
+
+#[test]
+fn a_move_has_the_names_that_stand_behind_its_word(rt: HostRuntime) -> Result<(), Fail> {
+    assert!(rt; names_are(rt, "intro x by y", &["x", "by", "y"]));
+    assert!(rt; names_are(rt, "apply (e a) at h", &["e", "h"]));
+    assert!(rt; names_are(rt, "induction n with d hd", &["n", "d", "hd"]));
+    assert!(rt; names_are(rt, "cases h with a", &["h", "a"]));
+    assert!(rt; names_are(rt, "cases h", &["h"]));
+    assert!(rt; names_are(rt, "symm at h", &["h"]));
+    assert!(rt; names_are(rt, "have h := e a", &["h", "e"]));
+    assert!(rt; names_are(rt, "revert x", &["x"]));
+    Ok(())
+}
+
 // How many tokens the formula of a script's one `have` has.
 fn formula_length(rt: HostRuntime, source: &str) -> Option<usize> {
     let Ok(script) = read_script(rt.alloc(), source, false) else {
@@ -406,6 +458,10 @@ fn a_fault_of_a_token_counts_by_its_place(rt: HostRuntime) -> Result<(), Fail> {
         ("rfl; \"", ScriptFault::Lex(LexFault::OpenString { at: 5 })),
         ("/-", ScriptFault::Lex(LexFault::OpenComment { at: 0 })),
         (
+            "rfl; abcdefghijklmnopqrstuvwxyzabcdefghijklmnopqrstuvw",
+            ScriptFault::Lex(LexFault::LongName { at: 5 }),
+        ),
+        (
             "rfl x $",
             ScriptFault::Expected {
                 at: 4,
@@ -440,6 +496,10 @@ fn at_most_200_steps_stand(rt: HostRuntime) -> Result<(), Fail> {
         };
         assert!(rt; fault_of(rt, source.as_str(), false) == want, "{last}");
     }
+    // Moves in a branch count.
+    let branch = repeated(rt, "  rfl\n", 201)?;
+    let source = format!(in rt.alloc(); "Branch\n{branch}")?;
+    assert!(rt; fault_of(rt, source.as_str(), true) == Some(ScriptFault::TooMany { at: 1_209 }));
     // What can't stand there comes first.
     let source = format!(in rt.alloc(); "{most}intro x 0")?;
     assert!(rt;

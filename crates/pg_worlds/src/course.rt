@@ -58,7 +58,9 @@ impl Course {
     ghost use Rattle.pg_worlds.specs.Course.{level_at, world_of, Needs, IsBefore, IsFirstMissing, IsLeastWon, IsOpen, IsPlan, AreOpen, HasUnwon, IsWaiting};
     ghost use Rattle.pg_worlds.specs.View.{level_of, plan_of};
 
-    /// The course of these worlds, in an order of the graph, and of these levels in the order of levels. Takes no memory.
+    /// The course of these worlds, in the order of the graph, and of these levels in the order of
+    /// levels: each world has as many, one behind the other, as the graph says, and all together are
+    /// at most 65,536. Takes no memory.
     pub fn new(graph: Graph, order: Vec<u16>, items: Vec<LevelItems>) -> Course
         requires { IsPlan (plan_of graph order.items items.items) }
         ensures { result ≡ plan_of graph order.items items.items }

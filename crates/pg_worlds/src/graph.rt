@@ -18,7 +18,7 @@ pub(crate) const MOST_WORLDS: usize = 64;
 #[derive(Debug, Drop, Error)]
 pub enum WorldFault {
     /// The worlds of a loop, each of which needs the next, and the last one the first.
-    #[error("the worlds {worlds:?} need each other")]
+    #[error("the worlds {worlds:?} are a loop of needs")]
     Loop { worlds: Vec<u16> },
     /// No memory.
     #[error("out of memory")]
@@ -52,7 +52,8 @@ impl Model for Graph {
 }
 
 impl Graph {
-    /// The worlds in file order: how many levels each has, and which worlds it needs, by number. Takes no memory.
+    /// The worlds in file order: how many levels each has, and which worlds it needs, by number. Both
+    /// lists have one length, at most 64, and each need is the number of a world. Takes no memory.
     pub fn new(levels: Vec<u16>, needs: Vec<Vec<u16>>) -> Graph
         requires { IsGraph (worlds_of levels.items (map (λ v. v.items) needs.items)) }
         ensures { result ≡ worlds_of levels.items (map (λ v. v.items) needs.items) }
