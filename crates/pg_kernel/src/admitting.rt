@@ -61,7 +61,8 @@ impl Checked {
     /// The proof. Takes no memory.
     pub fn proof(&self) -> &Proof
         ensures value { result.now ≡ self.now.1 }
-        // over some signature and theorems the kernel accepts it for the goal
+        // over some declared signature and fewer than 2^32 theorems the kernel accepts it for the
+        // goal
         ensures accepted { IsAdmitted (formula self.now.0) (proof self.now.1) }
     {
         self.proof.get()
@@ -85,9 +86,12 @@ fn examined(
 ) -> Result<Option<Items<u32>>, AllocError>
     requires { IsTrue (arith.fits (signature sig.now) 0 0 (formula goal.now)) }
     ensures some { IfOk result (λ o. IfSome o (λ names. AreNames (proof p.now) names × Accepts (signature sig.now) (formulas theorems.now) (proof p.now) (formula goal.now))) }
+    ensures admitted { IfOk result (λ o. IfSome o (λ _. IsAdmitted (formula goal.now) (proof p.now))) }
     ensures none { IfOk result (λ o. IfNone o (Accepts (signature sig.now) (formulas theorems.now) (proof p.now) (formula goal.now) → ⊥)) }
     ensures sound { IfOk result (λ o. IfSome o (λ names. ((k : ℕ) → IsTrue (is_named k (proof p.now)) → IsTheorem (signature sig.now) (formulas theorems.now) k) → IsTrueOf (signature sig.now) [] (formula goal.now))) }
 {
+    sig.declared_law();
+    theorems.count_law();
     match check(alloc, sig, theorems, 0, &[], p, goal)? {
         Verdict::Accepted => Ok(Some(names_of(alloc, p)?)),
         Verdict::Refused { .. } => Ok(None),

@@ -31,24 +31,25 @@ pub enum Verdict {
     Refused { node: u32, rule: u8 },
 }
 
-/// The number of this node, and one more for the next.
-fn enter(node: &mut u32) -> u32
-    ensures number { result ≡ node.old }
-    ensures next { node.new ≡ min (node.old + 1) (2 ^ 32 - 1) }
+/// Takes the number of a node, and counts one on for the next node. The count stays at the type's
+/// end.
+fn enter(next: &mut u32) -> u32
+    ensures number { result ≡ next.old }
+    ensures counted { next.new ≡ min (next.old + 1) (2 ^ 32 - 1) }
 {
-    let at = *node;
-    *node = at.saturating_add(1);
-    at
+    let node = *next;
+    *next = node.saturating_add(1);
+    node
 }
 
-/// A node with no premise.
-fn settled(at: u32, holds: bool, rule: u8) -> Verdict
-    ensures { result ≡ (if holds then Verdict.Accepted else Verdict.Refused at rule) }
+/// The verdict on a node with no premise, by whether the condition of its rule holds.
+fn settled(node: u32, holds: bool, rule: u8) -> Verdict
+    ensures { result ≡ (if holds then Verdict.Accepted else Verdict.Refused node rule) }
 {
     if holds {
         Verdict::Accepted
     } else {
-        Verdict::Refused { node: at, rule }
+        Verdict::Refused { node, rule }
     }
 }
 
@@ -62,206 +63,235 @@ fn is_at(all: &[Formula], i: u32, goal: &Formula) -> bool
     }
 }
 
-/// The check of a proof, whose root has the number `node`, in a context. The hypotheses are as they
-/// were afterwards.
+/// Checks a proof of a goal in a context of `vars` variables and the hypotheses, node by node in
+/// preorder, up to the first refusal. `next` is the number of its root; where it is accepted, it is
+/// the number after its last node then. Afterwards the hypotheses are as before.
 #[cycle(check)]
-fn fault(
+fn check_node(
     p: &Proof,
     cx: &Context<'_>,
     vars: u32,
     hyps: &mut Items<Formula>,
-    node: &mut u32,
+    next: &mut u32,
     goal: &Formula,
 ) -> Result<Verdict, AllocError>
-    ensures checks { IfOk result (λ v. Gives (logic.fault_of (signature cx.now.sig.now) (formulas cx.now.theorems.now) (proof p.now) vars (formulas hyps.old) (formula goal.now)) (logic.steps (proof p.now)) node.old node.new v) }
+    ensures checks { IfOk result (λ v. Gives (logic.fault_of (signature cx.now.sig.now) (formulas cx.now.theorems.now) (proof p.now) vars (formulas hyps.old) (formula goal.now)) (logic.steps (proof p.now)) next.old next.new v) }
     ensures kept { IfOk result (λ _. hyps.new ≡ hyps.old) }
 {
-    let at = enter(node);
+    let node = enter(next);
     match p {
-        Proof::Hyp(i) => Ok(settled(at, is_at(hyps.as_slice(), *i, goal), 1)),
-        Proof::Thm(i) => Ok(settled(at, is_at(cx.theorems, *i, goal), 2)),
-        Proof::Andi(p, q) => fault_two(
+        Proof::Hyp(i) => Ok(settled(node, is_at(hyps.as_slice(), *i, goal), 1)),
+        Proof::Thm(i) => Ok(settled(node, is_at(cx.theorems, *i, goal), 2)),
+        Proof::Andi(p, q) => check_two(
             p.get(),
             q.get(),
             cx,
             hyps,
-            at,
             node,
+            next,
             3,
             rules::andi(cx, vars, goal)?,
         ),
-        Proof::Andl(b, p) => fault_one(
+        Proof::Andl(b, p) => check_one(
             p.get(),
             cx,
             hyps,
-            at,
             node,
+            next,
             4,
             rules::andl(cx, vars, b, goal)?,
         ),
-        Proof::Andr(a, p) => fault_one(
+        Proof::Andr(a, p) => check_one(
             p.get(),
             cx,
             hyps,
-            at,
             node,
+            next,
             5,
             rules::andr(cx, vars, a, goal)?,
         ),
-        Proof::Orl(p) => fault_one(p.get(), cx, hyps, at, node, 6, rules::orl(cx, vars, goal)?),
-        Proof::Orr(p) => fault_one(p.get(), cx, hyps, at, node, 7, rules::orr(cx, vars, goal)?),
+        Proof::Orl(p) => check_one(
+            p.get(),
+            cx,
+            hyps,
+            node,
+            next,
+            6,
+            rules::orl(cx, vars, goal)?,
+        ),
+        Proof::Orr(p) => check_one(
+            p.get(),
+            cx,
+            hyps,
+            node,
+            next,
+            7,
+            rules::orr(cx, vars, goal)?,
+        ),
         Proof::Ore(a, b, p, q, r) => {
             let premises = rules::ore(cx, vars, a, b, goal)?;
-            fault_three(p.get(), q.get(), r.get(), cx, hyps, at, node, 8, premises)
+            check_three(p.get(), q.get(), r.get(), cx, hyps, node, next, 8, premises)
         }
-        Proof::Impi(p) => fault_one(p.get(), cx, hyps, at, node, 9, rules::impi(cx, vars, goal)?),
-        Proof::Impe(a, p, q) => fault_two(
+        Proof::Impi(p) => check_one(
+            p.get(),
+            cx,
+            hyps,
+            node,
+            next,
+            9,
+            rules::impi(cx, vars, goal)?,
+        ),
+        Proof::Impe(a, p, q) => check_two(
             p.get(),
             q.get(),
             cx,
             hyps,
-            at,
             node,
+            next,
             10,
             rules::impe(cx, vars, a, goal)?,
         ),
-        Proof::Fale(p) => fault(p.get(), cx, vars, hyps, node, &Formula::Falsum),
-        Proof::Lem => Ok(settled(at, goals::is_middle(goal), 12)),
-        Proof::Alli(p) => fault_one(
+        Proof::Fale(p) => check_node(p.get(), cx, vars, hyps, next, &Formula::Falsum),
+        Proof::Lem => Ok(settled(node, goals::is_middle(goal), 12)),
+        Proof::Alli(p) => check_one(
             p.get(),
             cx,
             hyps,
-            at,
             node,
+            next,
             13,
             rules::alli(cx, vars, goal)?,
         ),
-        Proof::Alle(a, t, p) => fault_one(
+        Proof::Alle(a, t, p) => check_one(
             p.get(),
             cx,
             hyps,
-            at,
             node,
+            next,
             14,
             rules::alle(cx, vars, a, t, goal)?,
         ),
-        Proof::Exi(t, p) => fault_one(
+        Proof::Exi(t, p) => check_one(
             p.get(),
             cx,
             hyps,
-            at,
             node,
+            next,
             15,
             rules::exi(cx, vars, t, goal)?,
         ),
-        Proof::Exe(a, p, q) => fault_two(
+        Proof::Exe(a, p, q) => check_two(
             p.get(),
             q.get(),
             cx,
             hyps,
-            at,
             node,
+            next,
             16,
             rules::exe(cx, vars, a, goal)?,
         ),
-        Proof::Refl => Ok(settled(at, goals::is_reflexive(goal), 17)),
+        Proof::Refl => Ok(settled(node, goals::is_reflexive(goal), 17)),
         Proof::Repl(a, s, t, p, q) => {
             let premises = rules::repl(cx, vars, a, s, t, goal)?;
-            fault_two(p.get(), q.get(), cx, hyps, at, node, 18, premises)
+            check_two(p.get(), q.get(), cx, hyps, node, next, 18, premises)
         }
         Proof::Ind(a, t, p, q) => {
             let premises = rules::ind(cx, vars, a, t, goal)?;
-            fault_two(p.get(), q.get(), cx, hyps, at, node, 19, premises)
+            check_two(p.get(), q.get(), cx, hyps, node, next, 19, premises)
         }
-        Proof::Predi(p) => fault_one(
+        Proof::Predi(p) => check_one(
             p.get(),
             cx,
             hyps,
-            at,
             node,
+            next,
             20,
             rules::predi(cx, vars, goal)?,
         ),
-        Proof::Prede(a, p) => fault_one(
+        Proof::Prede(a, p) => check_one(
             p.get(),
             cx,
             hyps,
-            at,
             node,
+            next,
             21,
             rules::prede(cx, vars, a, goal)?,
         ),
     }
 }
 
-/// A node with one premise, or a false condition.
+/// Checks what is left of a node with one premise, of which `p` is the proof. The node's number is
+/// `node`, and `next` is the one after it. The node is refused where there are no premises, since
+/// the condition of its rule is false then.
 #[cycle(check)]
-fn fault_one(
+fn check_one(
     p: &Proof,
     cx: &Context<'_>,
     hyps: &mut Items<Formula>,
-    at: u32,
-    node: &mut u32,
+    node: u32,
+    next: &mut u32,
     rule: u8,
     premises: Option<Premise>,
 ) -> Result<Verdict, AllocError>
-    requires { node.old ≡ min (at + 1) (2 ^ 32 - 1) }
-    ensures checks { IfOk result (λ v. Gives (checks.one (signature cx.now.sig.now) (formulas cx.now.theorems.now) (formulas hyps.old) (proof p.now) rule (option_map premise premises)) (logic.steps (proof p.now) + 1) at node.new v) }
+    requires { next.old ≡ min (node + 1) (2 ^ 32 - 1) }
+    ensures checks { IfOk result (λ v. Gives (checks.one (signature cx.now.sig.now) (formulas cx.now.theorems.now) (formulas hyps.old) (proof p.now) rule (option_map premise premises)) (logic.steps (proof p.now) + 1) node next.new v) }
     ensures kept { IfOk result (λ _. hyps.new ≡ hyps.old) }
 {
     match premises {
-        None => Ok(Verdict::Refused { node: at, rule }),
-        Some(premise) => fault_premise(p, cx, hyps, node, premise),
+        None => Ok(Verdict::Refused { node, rule }),
+        Some(premise) => check_premise(p, cx, hyps, next, premise),
     }
 }
 
-/// A node with two.
+/// Checks what is left of a node with two premises, of which `p` and `q` are the proofs, as
+/// `check_one` does.
 #[cycle(check)]
-fn fault_two(
+fn check_two(
     p: &Proof,
     q: &Proof,
     cx: &Context<'_>,
     hyps: &mut Items<Formula>,
-    at: u32,
-    node: &mut u32,
+    node: u32,
+    next: &mut u32,
     rule: u8,
     premises: Option<(Premise, Premise)>,
 ) -> Result<Verdict, AllocError>
-    requires { node.old ≡ min (at + 1) (2 ^ 32 - 1) }
-    ensures checks { IfOk result (λ v. Gives (checks.two (signature cx.now.sig.now) (formulas cx.now.theorems.now) (formulas hyps.old) (proof p.now) (proof q.now) rule (option_map pair premises)) (logic.steps (proof p.now) + logic.steps (proof q.now) + 1) at node.new v) }
+    requires { next.old ≡ min (node + 1) (2 ^ 32 - 1) }
+    ensures checks { IfOk result (λ v. Gives (checks.two (signature cx.now.sig.now) (formulas cx.now.theorems.now) (formulas hyps.old) (proof p.now) (proof q.now) rule (option_map pair premises)) (logic.steps (proof p.now) + logic.steps (proof q.now) + 1) node next.new v) }
     ensures kept { IfOk result (λ _. hyps.new ≡ hyps.old) }
 {
     match premises {
-        None => Ok(Verdict::Refused { node: at, rule }),
-        Some((first, second)) => match fault_premise(p, cx, hyps, node, first)? {
-            Verdict::Accepted => fault_premise(q, cx, hyps, node, second),
+        None => Ok(Verdict::Refused { node, rule }),
+        Some((first, second)) => match check_premise(p, cx, hyps, next, first)? {
+            Verdict::Accepted => check_premise(q, cx, hyps, next, second),
             refused => Ok(refused),
         },
     }
 }
 
-/// A node with three.
+/// Checks what is left of a node with three premises, of which `p`, `q` and `r` are the proofs, as
+/// `check_one` does.
 #[cycle(check)]
-fn fault_three(
+fn check_three(
     p: &Proof,
     q: &Proof,
     r: &Proof,
     cx: &Context<'_>,
     hyps: &mut Items<Formula>,
-    at: u32,
-    node: &mut u32,
+    node: u32,
+    next: &mut u32,
     rule: u8,
     premises: Option<(Premise, Premise, Premise)>,
 ) -> Result<Verdict, AllocError>
-    requires { node.old ≡ min (at + 1) (2 ^ 32 - 1) }
-    ensures checks { IfOk result (λ v. Gives (checks.three (signature cx.now.sig.now) (formulas cx.now.theorems.now) (formulas hyps.old) (proof p.now) (proof q.now) (proof r.now) rule (option_map triple premises)) (logic.steps (proof p.now) + logic.steps (proof q.now) + logic.steps (proof r.now) + 1) at node.new v) }
+    requires { next.old ≡ min (node + 1) (2 ^ 32 - 1) }
+    ensures checks { IfOk result (λ v. Gives (checks.three (signature cx.now.sig.now) (formulas cx.now.theorems.now) (formulas hyps.old) (proof p.now) (proof q.now) (proof r.now) rule (option_map triple premises)) (logic.steps (proof p.now) + logic.steps (proof q.now) + logic.steps (proof r.now) + 1) node next.new v) }
     ensures kept { IfOk result (λ _. hyps.new ≡ hyps.old) }
 {
     match premises {
-        None => Ok(Verdict::Refused { node: at, rule }),
-        Some((first, second, third)) => match fault_premise(p, cx, hyps, node, first)? {
-            Verdict::Accepted => match fault_premise(q, cx, hyps, node, second)? {
-                Verdict::Accepted => fault_premise(r, cx, hyps, node, third),
+        None => Ok(Verdict::Refused { node, rule }),
+        Some((first, second, third)) => match check_premise(p, cx, hyps, next, first)? {
+            Verdict::Accepted => match check_premise(q, cx, hyps, next, second)? {
+                Verdict::Accepted => check_premise(r, cx, hyps, next, third),
                 refused => Ok(refused),
             },
             refused => Ok(refused),
@@ -269,31 +299,33 @@ fn fault_three(
     }
 }
 
-/// A premise, in its own context.
+/// Checks the proof of a premise in the premise's own context: its variables, and the hypotheses
+/// with its own one put after them, which is taken away again. `next` is as in `check_node`.
 #[cycle(check)]
-fn fault_premise(
+fn check_premise(
     p: &Proof,
     cx: &Context<'_>,
     hyps: &mut Items<Formula>,
-    node: &mut u32,
+    next: &mut u32,
     given: Premise,
 ) -> Result<Verdict, AllocError>
-    ensures checks { IfOk result (λ v. Gives (checks.at (signature cx.now.sig.now) (formulas cx.now.theorems.now) (formulas hyps.old) (proof p.now) (premise given)) (logic.steps (proof p.now)) node.old node.new v) }
+    ensures checks { IfOk result (λ v. Gives (checks.at (signature cx.now.sig.now) (formulas cx.now.theorems.now) (formulas hyps.old) (proof p.now) (premise given)) (logic.steps (proof p.now)) next.old next.new v) }
     ensures kept { IfOk result (λ _. hyps.new ≡ hyps.old) }
 {
     let Premise { vars, extra, goal } = given;
     match extra {
-        None => fault(p, cx, vars, hyps, node, goal.get()),
+        None => check_node(p, cx, vars, hyps, next, goal.get()),
         Some(extra) => {
             hyps.push(extra.into_inner())?;
-            let verdict = fault(p, cx, vars, hyps, node, goal.get())?;
+            let verdict = check_node(p, cx, vars, hyps, next, goal.get())?;
             let _ = hyps.pop();
             Ok(verdict)
         }
     }
 }
 
-/// The check, on a list of the hypotheses to which those of the premises can be put.
+/// Checks a proof from its root on, over a copy of the hypotheses to which those of the premises
+/// can be put.
 fn checked(
     alloc: Global,
     sig: &Signature,
@@ -314,8 +346,8 @@ fn checked(
         sig,
         theorems: theorems.as_slice(),
     };
-    let mut node = 0;
-    fault(p, &cx, vars, &mut held, &mut node, goal)
+    let mut next = 0;
+    check_node(p, &cx, vars, &mut held, &mut next, goal)
 }
 
 /// Checks a proof of a goal in a context: `vars` variables and the hypotheses, which fit them as

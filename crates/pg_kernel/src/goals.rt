@@ -65,7 +65,7 @@ pub fn eq(alloc: Global, s: &Term, t: &Term) -> Result<Formula, AllocError>
     Ok(Formula::Eq(s.copied(alloc)?, t.copied(alloc)?))
 }
 
-/// Whether a formula is one or its own negation.
+/// Whether a formula is `A ∨ (A → False)`.
 pub fn is_middle(a: &Formula) -> bool
     ensures { result ≡ logic.is_middle (formula a.now) }
 {

@@ -1,5 +1,6 @@
 //! The lines of the table of rules ("Rules" in docs/LOGIC.md): what the premises of a node prove,
-//! or none where a field does not fit or the condition is false. Each fails only for want of memory.
+//! or none where a field does not fit or the condition is false. Each fails only for want of
+//! memory.
 
 ghost use Rattle.std.specs.Prelude.{◌≡◌, ◌&&◌, ◌+◌, ◌-◌, ◌^◌, ◌<◌, option_map, IfOk};
 ghost use Rattle.pg_logic.specs.Kernel as logic;
@@ -106,7 +107,7 @@ pub fn impi(cx: &Context<'_>, vars: u32, goal: &Formula) -> Result<Option<Premis
     ensures { IfOk result (λ o. option_map premise o ≡ logic.impi_line vars (formula goal.now)) }
 {
     match goal {
-        Formula::Imp(a, b) => Ok(Some(case(cx, vars, a.get(), b.get())?)),
+        Formula::Imp(a, b) => Ok(Some(assuming_copies(cx, vars, a.get(), b.get())?)),
         _ => Ok(None),
     }
 }
@@ -263,7 +264,7 @@ pub fn prede(
 fn has_room(vars: u32) -> bool
     ensures { result ≡ logic.has_room vars }
 {
-    vars < 4294967295
+    vars < u32::MAX
 }
 
 /// Whether a body and a term fit, and the body opened by the term is the goal.
@@ -351,15 +352,20 @@ fn induces_to(
     Ok(whole.same(goal))
 }
 
-/// A case of an `ore`.
-fn case(cx: &Context<'_>, vars: u32, a: &Formula, goal: &Formula) -> Result<Premise, AllocError>
-    ensures { IfOk result (λ p. premise p ≡ logic.assuming vars (formula a.now) (formula goal.now)) }
+/// A premise with `known` for one more hypothesis, from copies of it and of the goal.
+fn assuming_copies(
+    cx: &Context<'_>,
+    vars: u32,
+    known: &Formula,
+    goal: &Formula,
+) -> Result<Premise, AllocError>
+    ensures { IfOk result (λ p. premise p ≡ logic.assuming vars (formula known.now) (formula goal.now)) }
 {
-    let extra = goals::boxed(cx.alloc, a)?;
+    let extra = goals::boxed(cx.alloc, known)?;
     assuming(cx.alloc, vars, extra, goal.copied(cx.alloc)?)
 }
 
-/// Both cases of an `ore`.
+/// Both cases of rule 8: the goal from either side of the disjunction.
 fn cases(
     cx: &Context<'_>,
     vars: u32,
@@ -369,8 +375,8 @@ fn cases(
 ) -> Result<(Premise, Premise), AllocError>
     ensures { IfOk result (λ p. pair p ≡ (logic.assuming vars (formula a.now) (formula goal.now), logic.assuming vars (formula b.now) (formula goal.now))) }
 {
-    let left = case(cx, vars, a, goal)?;
-    let right = case(cx, vars, b, goal)?;
+    let left = assuming_copies(cx, vars, a, goal)?;
+    let right = assuming_copies(cx, vars, b, goal)?;
     Ok((left, right))
 }
 

@@ -63,31 +63,33 @@ fn signature(alloc: Global) -> Result<Signature, DeclareFault> {
 
 // ---- the rules
 
-/// What the kernel says of a proof of a goal in the empty context.
+/// What the kernel says of a proof of a goal in a context with `vars` variables and no hypotheses.
 fn verdict(
     alloc: Global,
     sig: &Signature,
     theorems: &Theorems,
+    vars: u32,
     goal: &str,
     proof: &str,
 ) -> Result<Option<Verdict>, AllocError> {
     let goal = spelling::goal(alloc, goal)?;
     let proof = spelling::proof(alloc, proof)?;
-    if !sig.fits(0, goal.get()) {
+    if !sig.fits(vars, goal.get()) {
         return Ok(None);
     }
-    let verdict = check(alloc, sig, theorems, 0, &[], proof.get(), goal.get())?;
+    let verdict = check(alloc, sig, theorems, vars, &[], proof.get(), goal.get())?;
     Ok(Some(verdict))
 }
 
 fn verdict_in_game(
     alloc: Global,
+    vars: u32,
     goal: &str,
     proof: &str,
 ) -> Result<Option<Verdict>, DeclareFault> {
     let sig = signature(alloc)?;
     let theorems = Theorems::new(alloc, &sig)?;
-    Ok(verdict(alloc, &sig, &theorems, goal, proof)?)
+    Ok(verdict(alloc, &sig, &theorems, vars, goal, proof)?)
 }
 
 const CERTIFICATE: &str = "AI=+0xxaa=+x0x0t2R=+0sbsx+0bbh0a=+0sxs+0xbaA=+ysxs+yx0t3";
@@ -118,7 +120,7 @@ fn each_rule_accepts(rt: HostRuntime) {
         ("><00E=0+0x", ">Q<00h0"),
     ] {
         assert_eq!(rt;
-            verdict_in_game(rt.alloc(), goal, proof),
+            verdict_in_game(rt.alloc(), 0, goal, proof),
             Ok(Some(Verdict::Accepted)),
             "{proof}"
         );
@@ -151,7 +153,7 @@ fn each_rule_refuses(rt: HostRuntime) {
         (">=00=00", ">Q=00h0", 1, 21),
     ] {
         assert_eq!(rt;
-            verdict_in_game(rt.alloc(), goal, proof),
+            verdict_in_game(rt.alloc(), 0, goal, proof),
             Ok(Some(Verdict::Refused { node, rule })),
             "{proof}"
         );
@@ -174,11 +176,28 @@ fn premises_are_checked_in_their_contexts(rt: HostRuntime) {
         ("=00", "t9", 0, 2),
     ] {
         assert_eq!(rt;
-            verdict_in_game(rt.alloc(), goal, proof),
+            verdict_in_game(rt.alloc(), 0, goal, proof),
             Ok(Some(Verdict::Refused { node, rule })),
             "{proof}"
         );
     }
+}
+
+#[test]
+fn no_variable_past_the_last_number(rt: HostRuntime) {
+    for (goal, proof, rule) in [
+        ("A=xx", "A=", 13),
+        ("=00", "e=xxE0==", 16),
+        ("=00", "I=xx0==", 19),
+    ] {
+        assert_eq!(rt;
+            verdict_in_game(rt.alloc(), u32::MAX, goal, proof),
+            Ok(Some(Verdict::Refused { node: 0, rule })),
+            "{proof}"
+        );
+    }
+    let verdict = verdict_in_game(rt.alloc(), u32::MAX, "=00", "=");
+    assert_eq!(rt; verdict, Ok(Some(Verdict::Accepted)));
 }
 
 // ---- names and admission

@@ -50,8 +50,8 @@ impl Theorems {
         Ok(Theorems { formulas })
     }
 
-    /// Puts a theorem after the others and gives its number. There are fewer than 2^32 - 1. It fails
-    /// only for want of memory, and leaves the theorems as they were.
+    /// Puts a theorem after the others and gives its number. There are fewer than 2^32 - 1 before.
+    /// It fails only for want of memory, and leaves the theorems as they were then.
     pub fn push(&mut self, formula: Formula) -> Result<u32, AllocError>
         requires { length self.old < 2 ^ 32 - 1 }
         ensures added { OnOk result (self.new ≡ self.old ++ formula ∷ []) }
@@ -61,6 +61,14 @@ impl Theorems {
         let id = self.formulas.len() as u32;
         self.formulas.push(formula)?;
         Ok(id)
+    }
+
+    /// The law of the count, which a caller's proof can take from here: there are fewer than 2^32
+    /// theorems. It does nothing.
+    pub(crate) fn count_law(&self)
+        ensures { length self.now < 2 ^ 32 }
+    {
+        let _ = &self.formulas;
     }
 
     /// How many theorems there are. Takes no memory.

@@ -1,5 +1,5 @@
 -- Equations of numerals: they fit every signature, and their sides differ in value where they differ.
-use Rattle.std.proofs.Common.{◌≡◌, ℕ, List, [], Bool, true, false, ◌&&◌, IsTrue, refl, ap, sym, ◌∙◌, subst}
+use Rattle.std.proofs.Common.{◌≡◌, List, true, false, IsTrue, refl, sym, ◌∙◌}
 use Rattle.std.proofs.lemmas.Bool.{false≢true, true≢false, and_parts, and_from}
 use Rattle.pg_logic.specs.Tree.{Tm, free, bound, nought, succ, app, Fm, falsum, eq, pred, and, or, imp, all, ex}
 use Rattle.pg_logic.specs.Signature.{Signature, Function, fits, fits_term}

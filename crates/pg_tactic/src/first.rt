@@ -40,10 +40,9 @@ fn is_reflexive(alloc: Global, target: &Formula) -> Result<bool, AllocError>
 {
     let sig = Signature::new(alloc)?;
     let theorems = Theorems::new(alloc, &sig)?;
-    match check(alloc, &sig, &theorems, 0, &[], &Proof::Refl, target) {
-        Ok(Verdict::Accepted) => Ok(true),
-        Ok(Verdict::Refused { .. }) => Ok(false),
-        Err(e) => Err(e),
+    match check(alloc, &sig, &theorems, 0, &[], &Proof::Refl, target)? {
+        Verdict::Accepted => Ok(true),
+        Verdict::Refused { .. } => Ok(false),
     }
 }
 

@@ -7,9 +7,9 @@
 //! Formulas: `!` falsity, `=` of two terms, `<` for the order of two terms, `p` for predicate 9,
 //! which is not declared, `& | >` for the connectives, `A E` for the quantifiers.
 //!
-//! Proofs: `h t` with a digit for a hypothesis and a theorem; andi `&`, andl `l`, andr `r`, orl `[`,
-//! orr `]`, ore `|`, impi `>`, impe `i`, fale `!`, lem `m`, alli `A`, alle `a`, exi `E`, exe `e`,
-//! refl `=`, repl `R`, ind `I`, predi `P`, prede `Q`.
+//! Proofs: `h t` with a digit for a hypothesis and a theorem; andi `&`, andl `l`, andr `r`, orl
+//! `[`, orr `]`, ore `|`, impi `>`, impe `i`, fale `!`, lem `m`, alli `A`, alle `a`, exi `E`, exe
+//! `e`, refl `=`, repl `R`, ind `I`, predi `P`, prede `Q`.
 
 use crate::Proof;
 use pg_terms::{Formula, Name, Term};

@@ -1,4 +1,4 @@
-use Rattle.std.proofs.Common.{◌≡◌, subst, ap, ◌∙◌, sym, arith}
+use Rattle.std.proofs.Common.{ap, ◌∙◌, arith}
 use Rattle.pg_terms.specs.View.{terms, formula}
 use Rattle.pg_logic.specs.Tree.{substituted_formula}
 use Rattle.pg_kernel.proofs.Unfolds.{unfolded_missing, unfolded_found}

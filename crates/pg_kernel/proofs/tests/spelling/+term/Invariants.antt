@@ -1,4 +1,3 @@
-use Rattle.std.proofs.Common.{◌≡◌}
 use Rattle.pg_kernel.proofs.tests.spelling.+term.Given as goal
 
 abbrev pub decreases-term : goal.decreases-term

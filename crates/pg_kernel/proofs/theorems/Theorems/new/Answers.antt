@@ -1,4 +1,4 @@
-use Rattle.std.proofs.Common.{◌≡◌, ◌+◌, ◌∷◌, [], length, length-append, arith, ap, ◌∙◌}
+use Rattle.std.proofs.Common.{◌∷◌, [], length, length-append, arith, ap, ◌∙◌}
 use Rattle.pg_logic.specs.Axioms.{axioms}
 use Rattle.pg_arith.specs.View.{declarations}
 use Rattle.pg_terms.specs.View.{formulas}
