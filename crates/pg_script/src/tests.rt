@@ -293,14 +293,25 @@ fn are_texts(tokens: &[Token<'_>], wants: &[&str]) -> bool {
 fn has_names(form: &Form<'_>, wants: &[&str]) -> bool {
     match (form, wants) {
         (Form::Intro(names), _) => are_texts(names.as_slice(), wants),
-        (Form::Apply { expr, place: Some(at) }, [e, h]) => expr.name.text == *e && at.text == *h,
+        (
+            Form::Apply {
+                expr,
+                place: Some(at),
+            },
+            [e, h],
+        ) => expr.name.text == *e && at.text == *h,
         (Form::Split { name, names }, [n, rest @ ..]) => {
             name.text == *n && are_texts(names.as_slice(), rest)
         }
         (Form::Symm(Some(at)), [h]) => at.text == *h,
-        (Form::Have { name, formula: None, expr: Some(expr) }, [h, e]) => {
-            name.text == *h && expr.name.text == *e
-        }
+        (
+            Form::Have {
+                name,
+                formula: None,
+                expr: Some(expr),
+            },
+            [h, e],
+        ) => { name.text == *h && expr.name.text == *e }
         (Form::Revert(name), [x]) => name.text == *x,
         _ => false,
     }

@@ -103,18 +103,20 @@ module _ (s : Signature) where
   longer fr more n a long h = truth-agrees s of at n (fr ++ more) fr [] a (λ i lt. get_or-append fr more 0 i (omega arith)) 0 h
 
   closed-true : (n : ℕ) (fr : List ℕ) (bs : List Binder) (target : Fm) → length fr ≡ n → AreFitting s n bs target → IsTrueOf s fr (closed_from n bs target) ↔ Entailed fr bs target
-  closed-true n fr [] target long h =
-      (λ t more none hs. subst (λ l. IsTrueOf s (fr ++ l) target) (none_left more none) (subst (λ l. IsTrueOf s l target) (sym (append-nil fr)) t),
-      λ e. subst (λ l. IsTrueOf s l target) (append-nil fr) (e [] refl tt))
+  closed-true n fr [] target long h = (
+    λ t more none hs. subst (λ l. IsTrueOf s (fr ++ l) target) (none_left more none) (subst (λ l. IsTrueOf s l target) (sym (append-nil fr)) t),
+    λ e. subst (λ l. IsTrueOf s l target) (append-nil fr) (e [] refl tt),
+  )
   closed-true n fr (Var x ∷ bs) target long h =
       let inner : Fm = closed_from (n + 1) bs target in
       let step = λ (v : ℕ). truth-closed n v fr inner long (closed-fits (n + 1) bs target h) in
       let rest = λ (v : ℕ). closed-true (n + 1) (fr ++ v ∷ []) bs target (omega (arith, length-append fr (v ∷ []))) h in
       (λ t. entailed-open fr x bs target (λ v. (rest v).0 ((step v).0 (t v))), λ e v. (step v).1 ((rest v).1 (entailed-at fr x bs target e v)))
   closed-true n fr (Hyp y a ∷ bs) target long h =
-      let rest = closed-true n fr bs target long h.1 in
-      (λ t more many hs. rest.0 (t ((longer fr more n (formula a) long h.0).0 hs.0)) more many hs.1,
-      λ e t. rest.1 (λ more many hs. e more many ((longer fr more n (formula a) long h.0).1 t, hs)))
+      let rest = closed-true n fr bs target long h.1 in (
+        λ t more many hs. rest.0 (t ((longer fr more n (formula a) long h.0).0 hs.0)) more many hs.1,
+        λ e t. rest.1 (λ more many hs. e more many ((longer fr more n (formula a) long h.0).1 t, hs)),
+      )
 
 pub closes : (bs : List Binder) (target a : Fm) → a ≡ closed bs target → Closes bs target a
 closes bs target a e = λ s h. ap (fits s 0 0) e ∙ closed-fits s 0 bs target h

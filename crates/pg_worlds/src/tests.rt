@@ -701,7 +701,11 @@ fn alone(alloc: Global) -> Result<Vec<LevelItems>, AllocError> {
     new.new_theorems = [2, 3].as_slice().to_vec(alloc)?;
     items.push(new)?;
     let mut moves = owning(alloc, 11);
-    moves.only_tactics = Some([TacticName::Rfl, TacticName::Exact].as_slice().to_vec(alloc)?);
+    moves.only_tactics = Some(
+        [TacticName::Rfl, TacticName::Exact]
+            .as_slice()
+            .to_vec(alloc)?,
+    );
     items.push(moves)?;
     let mut theorems = owning(alloc, 12);
     theorems.only_theorems = Some([3, 4].as_slice().to_vec(alloc)?);
@@ -791,10 +795,16 @@ fn what_a_level_takes_away_wins(rt: HostRuntime) -> Result<(), Fail> {
     // New and disabled in one level.
     assert!(rt; gives_together(alloc, [].as_slice(), 0, [].as_slice(), [].as_slice())?);
     // The level's own statement, new and in an only-list, on replay.
-    assert!(rt; gives_together(alloc, [0, 1].as_slice(), 1, exact.as_slice(), [5].as_slice())?);
     assert!(rt;
-        gives_together(alloc, [2].as_slice(), 4, [].as_slice(), [12, 13].as_slice())?
+        gives_together(
+            alloc,
+            [0, 1].as_slice(),
+            1,
+            exact.as_slice(),
+            [5].as_slice()
+        )?
     );
+    assert!(rt; gives_together(alloc, [2].as_slice(), 4, [].as_slice(), [12, 13].as_slice())?);
     Ok(())
 }
 

@@ -348,7 +348,10 @@ fn names_have_faults_of_their_own(rt: HostRuntime) -> Result<(), Fail> {
         ("∀ World, a = a", ('e', 4, 0, 0)),
         ("succ", ('e', 4, 0, 0)),
     ] {
-        assert!(rt; fault_of_words(rt.alloc(), source) == Some(want), "{source}");
+        assert!(rt;
+            fault_of_words(rt.alloc(), source) == Some(want),
+            "{source}"
+        );
     }
     Ok(())
 }
