@@ -103,9 +103,7 @@ fn world_of_each(alloc: Global, levels: &[u16], order: &[u16]) -> Result<Vec<u16
 }
 
 // A level of this number: each second one has a sample, and each brings a move and two theorems.
-fn level(alloc: Global, world: u16, number: u16) -> Result<LevelItems, AllocError>
-    ensures { IfOk result (λ l. l.world ≡ world) }
-{
+fn level(alloc: Global, world: u16, number: u16) -> Result<LevelItems, AllocError> {
     let own = u32::from(number) * 2;
     Ok(LevelItems {
         world,
@@ -121,16 +119,27 @@ fn level(alloc: Global, world: u16, number: u16) -> Result<LevelItems, AllocErro
 }
 
 // A level for each place, of the world that stands there.
-fn levels(alloc: Global, worlds: &[u16]) -> Result<Vec<LevelItems>, AllocError>
-    ensures { IfOk result (λ r. map (λ (i : LevelItems). i.world) r.items ≡ worlds.now) }
-{
+fn levels(alloc: Global, worlds: &[u16]) -> Result<Vec<LevelItems>, AllocError> {
     let mut items = Vec::new(alloc);
-    let mut number: u16 = 0;
-    for world in worlds {
-        items.push(level(alloc, *world, number)?)?;
-        number = number.wrapping_add(1);
+    for (number, world) in worlds.iter().enumerate() {
+        items.push(level(alloc, *world, number as u16)?)?;
     }
     Ok(items)
+}
+
+// Whether these levels are of these worlds, one by one.
+fn have_worlds(items: &[LevelItems], worlds: &[u16]) -> bool
+    ensures { IsTrue result → map (λ (i : LevelItems). i.world) items.now ≡ worlds.now }
+{
+    if items.len() != worlds.len() {
+        return false;
+    }
+    for (at, item) in items.iter().enumerate() {
+        if item.world != worlds[at] {
+            return false;
+        }
+    }
+    true
 }
 
 // A course of so many worlds, each with so many levels.
@@ -140,10 +149,11 @@ fn course(alloc: Global, worlds: u16) -> Result<Course> {
     let order = graph.order(alloc)?;
     let worlds = world_of_each(alloc, counts.as_slice(), order.as_slice())?;
     let items = levels(alloc, worlds.as_slice())?;
-    if items.len() > 65_536 {
-        bail!("the course has too many levels");
+    if items.len() <= 65_536 && have_worlds(items.as_slice(), worlds.as_slice()) {
+        Ok(Course::new(graph, order, items))
+    } else {
+        bail!("the levels are not those of the worlds")
     }
-    Ok(Course::new(graph, order, items))
 }
 
 // ---- what is timed
@@ -155,19 +165,6 @@ fn level_at(course: &Course, turn: u64) -> LevelId
 {
     let last = course.count() - 1;
     LevelId((last - turn as usize % 8.min(course.count())) as u16)
-}
-
-// How many levels are open. The call that tells it of all levels at once is to go in here.
-fn open_count(course: &Course, won: &[bool]) -> u64
-    requires { length won.now ≡ length course.now.levels }
-{
-    let mut open: u64 = 0;
-    for at in 0..course.count() {
-        if course.is_open(won, LevelId(at as u16)) {
-            open = open.saturating_add(1);
-        }
-    }
-    open
 }
 
 // How often the level of a turn is open.
@@ -184,15 +181,20 @@ fn open_times(course: &Course, won: &[bool], times: u64) -> u64
     open
 }
 
-// How many levels are open, told so many times.
-fn all_open_times(course: &Course, won: &[bool], times: u64) -> u64
+// How many levels are open, found for all of them at once so many times.
+fn all_open_times(
+    alloc: Global,
+    course: &Course,
+    won: &[bool],
+    times: u64,
+) -> Result<u64, AllocError>
     requires { length won.now ≡ length course.now.levels }
 {
-    let mut open: u64 = 0;
-    for _ in 0..times {
-        open = open.saturating_add(open_count(course, won));
+    let mut open = course.open_levels(alloc, won)?;
+    for _ in 1..times {
+        open = course.open_levels(alloc, won)?;
     }
-    open
+    Ok(open.iter().filter(|flag| **flag).count() as u64)
 }
 
 // What is unlocked where all levels are won.
@@ -253,7 +255,7 @@ pub fn done(alloc: Global, kind: &str, size: u64, times: u64) -> Result<Told> {
         "open" => ("times open", open_times(&course, won.as_slice(), times)),
         "all-open" => (
             "levels open",
-            all_open_times(&course, won.as_slice(), times),
+            all_open_times(alloc, &course, won.as_slice(), times)?,
         ),
         "available" => (
             "moves and theorems",
