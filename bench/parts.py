@@ -19,16 +19,19 @@ TOP = os.path.dirname(os.path.dirname(os.path.abspath(__file__)))
 PROGRAM = os.path.join(TOP, "crates/pg_bench/out/pg_bench")
 RUNS = 5
 LONG_ENOUGH = 0.1
+MOST_STACK = 65536
 BYTES = (4096, 8192, 16384)
 TOKENS = (2048, 4096, 8192)
 FEW_TOKENS = (128, 256, 512)
 HEIGHTS = (13, 14)
+LONG_HEIGHTS = (2048, 4096, 8192)
 WORLDS = (16, 32, 64)
 
 COURSES = ("open", "all-open", "available", "least")
 SCRIPTS = ("expression", "arguments", "moves", "blocks", "parentheses", "hints", "fault", "unclosed")
 FORMULAS = ("sum", "product", "and", "names", "same-names", "uses", "nested", "application", "arity")
 PROOFS = ("and-3", "and-11", "and-101", "equal-3", "equal-11", "equal-101")
+CHAINS = ("chain-3", "chain-11")
 
 
 def sizes_of_print(kind):
@@ -43,6 +46,7 @@ PARTS = (
     + [(f"read:{kind}", TOKENS) for kind in FORMULAS]
     + [(f"print:{kind}", sizes_of_print(kind)) for kind in FORMULAS if kind != "arity"]
     + [(f"check:{kind}", HEIGHTS) for kind in PROOFS]
+    + [(f"check:{kind}", LONG_HEIGHTS) for kind in CHAINS]
 )
 
 
@@ -52,12 +56,11 @@ def used():
     return usage.ru_utime + usage.ru_stime
 
 
-def ran(part, size, times, stack=None):
+def ran(part, size, times, stack=MOST_STACK):
     """The processor time of a run in seconds, and how it ended. The stack's limit is in KiB."""
 
     def limit():
-        if stack is not None:
-            resource.setrlimit(resource.RLIMIT_STACK, (stack * 1024, stack * 1024))
+        resource.setrlimit(resource.RLIMIT_STACK, (stack * 1024, stack * 1024))
 
     words = [PROGRAM, part, str(size), str(times)]
     begun = used()
@@ -86,7 +89,7 @@ def cost(part, size):
 
 def stack(part, size):
     """The least limit of the stack under which the program ends well, in KiB."""
-    low, high = 0, 8192
+    low, high = 0, MOST_STACK
     if ran(part, size, 1, high)[1].returncode != 0:
         return None
     while high - low > 16:
@@ -107,7 +110,7 @@ def report(part, sizes):
         needed = ""
         if size == sizes[-1]:
             least_stack = stack(part, size)
-            needed = f"  stack {least_stack or 'over 8192'} KiB"
+            needed = f"  stack {least_stack or f'over {MOST_STACK}'} KiB"
         print(f"{part:20} {size:6} {spent:10.4f} ms  {told:28}{ratio}{needed}", flush=True)
         before = spent
 

@@ -21,7 +21,7 @@ pub struct Told {
 }
 
 /// The parts that are done where none is named, each with its size.
-const SMALL: [(&str, u64); 28] = [
+const SMALL: [(&str, u64); 29] = [
     ("course:open", 4),
     ("course:all-open", 4),
     ("course:available", 4),
@@ -50,6 +50,7 @@ const SMALL: [(&str, u64); 28] = [
     ("print:nested", 512),
     ("check:and-3", 5),
     ("check:equal-11", 5),
+    ("check:chain-11", 16),
 ];
 
 // The words after the program's name.

@@ -9,11 +9,34 @@ use pg_terms::{Formula, Term};
 use sqlite_items::Boxed;
 use std::alloc::{AllocError, Global};
 
-// How high a proof is at most.
-const MOST_HEIGHT: u64 = 16;
-
 // How many nodes an equation has at most.
 const MOST_NODES: u64 = 101;
+
+// How a proof is put together.
+#[derive(Clone, Copy)]
+enum Form {
+    And,
+    Equal,
+    Chain,
+}
+
+impl Form {
+    // How high a proof of this form is at most.
+    fn most_height(self) -> u64 {
+        match self {
+            Form::And | Form::Equal => 16,
+            Form::Chain => 8_192,
+        }
+    }
+
+    // How many nodes a proof of this form and height has.
+    fn node_count(self, height: u64) -> u64 {
+        match self {
+            Form::And | Form::Equal => (1_u64 << height.min(16)).saturating_sub(1),
+            Form::Chain => height.saturating_mul(2).saturating_sub(1),
+        }
+    }
+}
 
 // The numeral of so many nodes, and 0 for none.
 fn numeral(alloc: Global, nodes: u64) -> Result<Term, AllocError> {
@@ -66,6 +89,18 @@ fn equation_proof(alloc: Global, side: &Term, height: u64) -> Result<Proof, Allo
     Ok(whole)
 }
 
+// A proof of `t = t` that is a chain of this height: each node but the last puts reflexivity and the node below together.
+fn chain_proof(alloc: Global, side: &Term, height: u64) -> Result<Proof, AllocError> {
+    let mut whole = Proof::Refl;
+    for _ in 1..height {
+        let first = Boxed::new(alloc, Proof::Refl)?;
+        let second = Boxed::new(alloc, whole)?;
+        let (from, to) = (side.copied(alloc)?, side.copied(alloc)?);
+        whole = Proof::Repl(body(alloc, side)?, from, to, first, second);
+    }
+    Ok(whole)
+}
+
 // Checks a proof of a goal so many times.
 fn check_times(alloc: Global, proof: &Proof, goal: &Formula, times: u64) -> Result<()> {
     let sig = Signature::new(alloc)?;
@@ -82,45 +117,50 @@ fn check_times(alloc: Global, proof: &Proof, goal: &Formula, times: u64) -> Resu
     Ok(())
 }
 
-// How many nodes a full binary tree of this height has.
-fn node_count(height: u32) -> u64
-    requires { height < 64 }
-    ensures { result ≡ 2 ^ height - 1 }
-{
-    (1 << height) - 1
-}
-
-// The rule of a kind, and the number of nodes of its equations.
-fn kind_parts(kind: &str) -> Result<(&str, u64)> {
-    let Some((rule, nodes)) = kind.split_once('-') else {
+// The form of a kind, and the number of nodes of its equations.
+fn kind_parts(kind: &str) -> Result<(Form, u64)> {
+    let Some((word, nodes)) = kind.split_once('-') else {
         bail!("there is no part check:{kind}");
     };
+    let form = match word {
+        "and" => Form::And,
+        "equal" => Form::Equal,
+        "chain" => Form::Chain,
+        _ => bail!("there is no part check:{kind}"),
+    };
     match nodes.parse::<u64>() {
-        Ok(nodes) if nodes <= MOST_NODES => Ok((rule, nodes)),
+        Ok(nodes) if nodes <= MOST_NODES => Ok((form, nodes)),
         _ => bail!("an equation has at most {MOST_NODES} nodes, and not {nodes}"),
     }
 }
 
-/// Checks a proof that is a full binary tree of this height, so many times.
-///
-/// `and-N` is a conjunction of equations of N nodes; `equal-N` is one equation of N nodes, put together of itself.
-pub fn done(alloc: Global, kind: &str, height: u64, times: u64) -> Result<Told> {
-    if height == 0 || height > MOST_HEIGHT {
-        bail!("a proof has a height of 1 to {MOST_HEIGHT}, and not {height}");
-    }
-    let (rule, nodes) = kind_parts(kind)?;
+// Checks a proof of this form and height so many times, with equations of so many nodes.
+fn check_form(alloc: Global, form: Form, nodes: u64, height: u64, times: u64) -> Result<()> {
     let side = numeral(alloc, nodes / 2)?;
     let leaf = equation(alloc, &side)?;
-    match rule {
-        "and" => {
+    match form {
+        Form::And => {
             let goal = conjunction(alloc, leaf, height)?;
-            check_times(alloc, &conjunction_proof(alloc, height)?, &goal, times)?;
+            check_times(alloc, &conjunction_proof(alloc, height)?, &goal, times)
         }
-        "equal" => check_times(alloc, &equation_proof(alloc, &side, height)?, &leaf, times)?,
-        _ => bail!("there is no part check:{kind}"),
+        Form::Equal => check_times(alloc, &equation_proof(alloc, &side, height)?, &leaf, times),
+        Form::Chain => check_times(alloc, &chain_proof(alloc, &side, height)?, &leaf, times),
     }
+}
+
+/// Checks a proof of this height so many times.
+///
+/// `and-N` is a full binary tree for a conjunction of equations of N nodes; `equal-N` is one for an equation of N nodes,
+/// put together of itself; `chain-N` is a chain for such an equation.
+pub fn done(alloc: Global, kind: &str, height: u64, times: u64) -> Result<Told> {
+    let (form, nodes) = kind_parts(kind)?;
+    let most = form.most_height();
+    if height == 0 || height > most {
+        bail!("a proof has a height of 1 to {most}, and not {height}");
+    }
+    check_form(alloc, form, nodes, height, times)?;
     Ok(Told {
         what: "nodes",
-        count: node_count(height as u32),
+        count: form.node_count(height),
     })
 }
