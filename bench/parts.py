@@ -4,8 +4,8 @@
 The program does a part N times in one run and 2N times in another. The difference, by N, is the time of one: the
 start of the program and the building of its input fall out. The time of a run is the processor time that it used, and
 of several runs the least counts. A ratio is that to the size on the line above, the half of it: near 2 says that the
-time grows in line with the size. The stack is the least
-limit, as `ulimit -s` sets it, in steps of 16 KiB, under which the program ends well.
+time grows in line with the size. The stack is the least limit, as `ulimit -s` sets it, in steps of 16 KiB, under which
+the program ends well.
 
 Build the program first (`cd crates/pg_bench && rt run`), then run `bench/parts.py` at the top of a checkout, or
 `bench/parts.py WORD ..` for the parts whose names begin with one of the words. It prints only; it judges nothing.

@@ -121,8 +121,10 @@ fn level(alloc: Global, world: u16, number: u16) -> Result<LevelItems, AllocErro
 // A level for each place, of the world that stands there.
 fn levels(alloc: Global, worlds: &[u16]) -> Result<Vec<LevelItems>, AllocError> {
     let mut items = Vec::new(alloc);
-    for (number, world) in worlds.iter().enumerate() {
-        items.push(level(alloc, *world, number as u16)?)?;
+    let mut number: u16 = 0;
+    for world in worlds {
+        items.push(level(alloc, *world, number)?)?;
+        number = number.wrapping_add(1);
     }
     Ok(items)
 }
@@ -142,18 +144,26 @@ fn have_worlds(items: &[LevelItems], worlds: &[u16]) -> bool
     true
 }
 
-// A course of so many worlds, each with so many levels.
-fn course(alloc: Global, worlds: u16) -> Result<Course> {
-    let counts = vec![in alloc; worlds; worlds as usize]?;
-    let graph = graph(alloc, counts.as_slice())?;
+// The course of worlds with so many levels each, and of these levels in their order.
+fn course_of(alloc: Global, counts: &[u16], items: Vec<LevelItems>) -> Result<Course>
+    requires { length counts.now < 2 ^ 16 }
+{
+    let graph = graph(alloc, counts)?;
     let order = graph.order(alloc)?;
-    let worlds = world_of_each(alloc, counts.as_slice(), order.as_slice())?;
-    let items = levels(alloc, worlds.as_slice())?;
+    let worlds = world_of_each(alloc, counts, order.as_slice())?;
     if items.len() <= 65_536 && have_worlds(items.as_slice(), worlds.as_slice()) {
         Ok(Course::new(graph, order, items))
     } else {
         bail!("the levels are not those of the worlds")
     }
+}
+
+// A course of so many worlds, each with so many levels.
+fn course(alloc: Global, worlds: u16) -> Result<Course> {
+    let counts = vec![in alloc; worlds; worlds as usize]?;
+    let order = graph(alloc, counts.as_slice())?.order(alloc)?;
+    let places = world_of_each(alloc, counts.as_slice(), order.as_slice())?;
+    course_of(alloc, counts.as_slice(), levels(alloc, places.as_slice())?)
 }
 
 // ---- what is timed

@@ -4,7 +4,7 @@ use Rattle.pg_worlds.specs.declared.course.LevelItems.{LevelItems}
 use Rattle.std.proofs.lemmas.List.{length-map}
 use Rattle.pg_worlds.specs.View.{level_of}
 use Rattle.pg_worlds.proofs.Games.{worlds_of_levels}
-use Rattle.pg_bench.proofs.course.course.Goals as goal
+use Rattle.pg_bench.proofs.course.course_of.Goals as goal
 
 pub new-requires : goal.new-requires
 new-requires c =
@@ -20,7 +20,7 @@ new-requires c =
           ∙ c.have_worlds.ensures c.if-have_worlds.true
           ∙ c.as_slice-then-len-le65536-2.ensures.value
           ∙ c.in_ok-worlds.ensures
-          ∙ ap (flat_map (row c.args.levels.now)) c.as_slice.ensures.value
+          ∙ ap (flat_map (row c.args.counts.now)) c.as_slice.ensures.value
           ∙ ap (λ levels. flat_map (row levels) order) (sym c.in_ok-graph.ensures);
       numbered = omega (arith, length-map items level_of);
     }
