@@ -33,7 +33,7 @@ impl Form {
     fn node_count(self, height: u64) -> u64 {
         match self {
             Form::And | Form::Equal => (1_u64 << height.min(16)).saturating_sub(1),
-            Form::Chain => height.saturating_mul(2).saturating_sub(1),
+            Form::Chain => (height / 2).saturating_mul(3).saturating_add(1),
         }
     }
 }
@@ -89,14 +89,19 @@ fn equation_proof(alloc: Global, side: &Term, height: u64) -> Result<Proof, Allo
     Ok(whole)
 }
 
-// A proof of `t = t` that is a chain of this height: each node but the last puts reflexivity and the node below together.
-fn chain_proof(alloc: Global, side: &Term, height: u64) -> Result<Proof, AllocError> {
+// A proof of the same equation two nodes higher: the left of a conjunction of it with itself.
+fn link(alloc: Global, leaf: &Formula, below: Proof) -> Result<Proof, AllocError> {
+    let below = Boxed::new(alloc, below)?;
+    let both = Proof::Andi(below, Boxed::new(alloc, Proof::Refl)?);
+    let both = Boxed::new(alloc, both)?;
+    Ok(Proof::Andl(leaf.copied(alloc)?, both))
+}
+
+// A proof of an equation of a term with itself that is a chain of so many links.
+fn chain_proof(alloc: Global, leaf: &Formula, links: u64) -> Result<Proof, AllocError> {
     let mut whole = Proof::Refl;
-    for _ in 1..height {
-        let first = Boxed::new(alloc, Proof::Refl)?;
-        let second = Boxed::new(alloc, whole)?;
-        let (from, to) = (side.copied(alloc)?, side.copied(alloc)?);
-        whole = Proof::Repl(body(alloc, side)?, from, to, first, second);
+    for _ in 0..links {
+        whole = link(alloc, leaf, whole)?;
     }
     Ok(whole)
 }
@@ -144,14 +149,15 @@ fn check_form(alloc: Global, form: Form, nodes: u64, height: u64, times: u64) ->
             check_times(alloc, &conjunction_proof(alloc, height)?, &goal, times)
         }
         Form::Equal => check_times(alloc, &equation_proof(alloc, &side, height)?, &leaf, times),
-        Form::Chain => check_times(alloc, &chain_proof(alloc, &side, height)?, &leaf, times),
+        Form::Chain => check_times(alloc, &chain_proof(alloc, &leaf, height / 2)?, &leaf, times),
     }
 }
 
 /// Checks a proof of this height so many times.
 ///
 /// `and-N` is a full binary tree for a conjunction of equations of N nodes; `equal-N` is one for an equation of N nodes,
-/// put together of itself; `chain-N` is a chain for such an equation.
+/// put together of itself. `chain-N` is a chain for such an equation, of links two nodes high: its height is odd, the
+/// next odd one.
 pub fn done(alloc: Global, kind: &str, height: u64, times: u64) -> Result<Told> {
     let (form, nodes) = kind_parts(kind)?;
     let most = form.most_height();
