@@ -1,5 +1,5 @@
 -- Lists of arguments, of declarations and of numbers, a piece at a time.
-use Rattle.std.proofs.Common.{◌≡◌, ℕ, ◌+◌, ◌-◌, ◌<◌, List, [], ◌∷◌, ◌++◌, length, zero, get_or, drop, take, map, Bool, true, false, ◌&&◌, suc, refl, arith, ap, ◌∙◌, sym, append-nil, length-append}
+use Rattle.std.proofs.Common.{◌≡◌, ℕ, ◌+◌, ◌-◌, ◌<◌, List, [], ◌∷◌, ◌++◌, length, zero, get_or, drop, take, suc, refl, arith, ap, ◌∙◌, sym, append-nil, length-append}
 use Rattle.std.specs.Option.{option_or}
 use Rattle.std.proofs.lemmas.List.Folds.{list_any-append}
 use Rattle.std.proofs.lemmas.Option.{slice_get-map}

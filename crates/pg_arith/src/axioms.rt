@@ -1,13 +1,13 @@
 //! The axioms of a signature, in their order: two of the numbers, then the equations of the
 //! functions in order of declaration.
 
-ghost use Rattle.std.specs.Prelude.{◌≡◌, ℕ, ◌+◌, ◌-◌, ◌^◌, ◌<◌, ◌≤◌, [], ◌++◌, ◌∷◌, length, take, true, slice_get, option_map, Some, IfOk, IfSome, MatchOption};
+ghost use Rattle.std.specs.Prelude.{◌≡◌, ℕ, ◌+◌, ◌-◌, ◌^◌, ◌<◌, ◌≤◌, [], ◌++◌, ◌∷◌, length, take, true, slice_get, option_map, Some, IfOk};
 ghost use Rattle.pg_logic.specs.Axioms as logic;
 ghost use Rattle.pg_logic.specs.Declarations.{HasParameters};
 ghost use Rattle.pg_logic.specs.Signature.{fits};
 ghost use Rattle.pg_logic.specs.Tree as tree;
 ghost use Rattle.pg_logic.specs.Truth.{IsTrueOf};
-ghost use Rattle.pg_terms.specs.View.{term, terms, args, formula};
+ghost use Rattle.pg_terms.specs.View.{term, terms, formula};
 ghost use Rattle.pg_arith.specs.View.{function, functions, declarations, signature};
 
 use crate::signature::{Constant, Function, Recursion, Signature};

@@ -1,7 +1,6 @@
 //! Which trees fit a signature.
 
-ghost use Rattle.std.specs.Prelude.{◌≡◌, ◌-◌, ◌^◌, min, ℕ, map, slice_get, length};
-ghost use Rattle.pg_logic.specs.Declarations.{function_of, predicate_of};
+ghost use Rattle.std.specs.Prelude.{◌≡◌, ◌-◌, ◌^◌, min, ℕ, slice_get};
 ghost use Rattle.pg_logic.specs.Signature as logic;
 ghost use Rattle.pg_terms.specs.View.{term, args, formula};
 ghost use Rattle.pg_arith.specs.View.{functions, predicates, plain_functions, plain_predicates, signature};

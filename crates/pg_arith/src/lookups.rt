@@ -4,7 +4,7 @@ ghost use Rattle.std.specs.Prelude.{◌≡◌, ◌^◌, ◌<◌, length, slice_g
 ghost use Rattle.std.specs.Str.{bytes_eq};
 ghost use Rattle.pg_logic.specs.Declarations.{name_of, arity_of};
 ghost use Rattle.pg_terms.specs.View.{formula};
-ghost use Rattle.pg_arith.specs.View.{function, functions, predicate, predicates, declarations};
+ghost use Rattle.pg_arith.specs.View.{function, functions, predicates, declarations};
 
 use crate::signature::{Constant, Function, Predicate, Recursion, Signature};
 use pg_terms::{Formula, Name};

@@ -1,7 +1,5 @@
-ghost use Rattle.std.specs.Prelude.{◌≡◌, ◌<◌, [], ◌++◌, ◌∷◌, length, map, slice_get, option_map, Some, IfOk, position, codes};
-ghost use Rattle.std.specs.Str.{bytes_eq};
-ghost use Rattle.pg_logic.specs.Declarations.{name_of, arity_of, AreDeclared};
-ghost use Rattle.pg_terms.specs.View.{formula};
+ghost use Rattle.std.specs.Prelude.{◌≡◌, ◌<◌, [], length, IfOk, codes};
+ghost use Rattle.pg_logic.specs.Declarations.{AreDeclared};
 ghost use Rattle.pg_arith.specs.View.{declarations, functions, predicates};
 
 use pg_terms::{Formula, Name, Term};

@@ -29,10 +29,6 @@ line_run (c ∷ cs) = by_feed (c == 10) refl (line_run cs)
     by_feed false is r = record { front = c ∷ r.front; rest = r.rest; whole = ap (λ x. c ∷ x) r.whole; count = rw is (ap suc r.count); all = rw is (ap suc r.all); stops = r.stops }
     by_feed true is r = record { front = []; rest = c ∷ cs; whole = refl; count = rw is refl; all = refl; stops = rw is refl }
 
-or_left_false : (a b : Bool) → (a || b) ≡ false → a ≡ false
-or_left_false true b h = h
-or_left_false false b h = refl
-
 -- whether a character goes on a name before these
 pub goes_on : ℕ → List ℕ → Bool
 goes_on c cs = is_name_character c || ((c == character ".") && begins_with_letter cs)

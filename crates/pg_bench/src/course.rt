@@ -1,5 +1,5 @@
 //! Courses: which levels are open, and what a player has in a level.
-ghost use Rattle.std.specs.Prelude.{◌≡◌, ◌<◌, ◌^◌, ◌++◌, ℕ, length, map, replicate, IfOk, OnOk, IsTrue, slice_index, nat_lt, flat_map};
+ghost use Rattle.std.specs.Prelude.{◌≡◌, ◌<◌, ◌^◌, ◌++◌, length, map, replicate, IfOk, OnOk, IsTrue, slice_index, nat_lt, flat_map};
 ghost use Rattle.std.specs.List.{list_all};
 ghost use Rattle.pg_worlds.specs.Worlds.{worlds_of, IsGraph};
 ghost use Rattle.pg_worlds.specs.declared.course.LevelItems.{LevelItems};

@@ -1,5 +1,5 @@
 //! Proofs that the kernel checks.
-ghost use Rattle.std.specs.Prelude.{◌≤◌, ◌<◌};
+ghost use Rattle.std.specs.Prelude.{◌<◌};
 
 use crate::Told;
 use anyhow::{Result, bail};

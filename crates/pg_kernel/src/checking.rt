@@ -1,6 +1,6 @@
 //! The check of a proof against a goal.
 
-ghost use Rattle.std.specs.Prelude.{◌≡◌, ◌+◌, ◌-◌, ◌^◌, ◌++◌, min, ℕ, if◌then◌else◌, slice_get, option_map, IfOk, IsTrue};
+ghost use Rattle.std.specs.Prelude.{◌≡◌, ◌+◌, ◌-◌, ◌^◌, min, ℕ, if◌then◌else◌, slice_get, option_map, IfOk, IsTrue};
 ghost use Rattle.pg_logic.specs.Kernel as logic;
 ghost use Rattle.pg_logic.specs.Signature as arith;
 ghost use Rattle.pg_logic.specs.Sound.{AllFit, IsTheorem, Entails};
@@ -9,7 +9,7 @@ ghost use Rattle.pg_arith.specs.View.{signature};
 ghost use Rattle.pg_kernel.specs.Checks as checks;
 ghost use Rattle.pg_kernel.specs.Checks.{Gives};
 ghost use Rattle.pg_kernel.specs.Names.{is_named};
-ghost use Rattle.pg_kernel.specs.Premises.{premise, pair, triple, extra_of};
+ghost use Rattle.pg_kernel.specs.Premises.{premise, pair, triple};
 ghost use Rattle.pg_kernel.specs.View.{proof};
 
 use crate::premise::{Context, Premise};
@@ -82,114 +82,56 @@ fn check_node(
     match p {
         Proof::Hyp(i) => Ok(settled(node, is_at(hyps.as_slice(), *i, goal), 1)),
         Proof::Thm(i) => Ok(settled(node, is_at(cx.theorems, *i, goal), 2)),
-        Proof::Andi(p, q) => check_two(
-            p.get(),
-            q.get(),
-            cx,
-            hyps,
-            node,
-            next,
-            3,
-            rules::andi(cx, vars, goal)?,
-        ),
-        Proof::Andl(b, p) => check_one(
-            p.get(),
-            cx,
-            hyps,
-            node,
-            next,
-            4,
-            rules::andl(cx, vars, b, goal)?,
-        ),
-        Proof::Andr(a, p) => check_one(
-            p.get(),
-            cx,
-            hyps,
-            node,
-            next,
-            5,
-            rules::andr(cx, vars, a, goal)?,
-        ),
-        Proof::Orl(p) => check_one(
-            p.get(),
-            cx,
-            hyps,
-            node,
-            next,
-            6,
-            rules::orl(cx, vars, goal)?,
-        ),
-        Proof::Orr(p) => check_one(
-            p.get(),
-            cx,
-            hyps,
-            node,
-            next,
-            7,
-            rules::orr(cx, vars, goal)?,
-        ),
+        Proof::Andi(p, q) => {
+            let premises = rules::andi(cx, vars, goal)?;
+            check_two(p.get(), q.get(), cx, hyps, node, next, 3, premises)
+        }
+        Proof::Andl(b, p) => {
+            let premises = rules::andl(cx, vars, b, goal)?;
+            check_one(p.get(), cx, hyps, node, next, 4, premises)
+        }
+        Proof::Andr(a, p) => {
+            let premises = rules::andr(cx, vars, a, goal)?;
+            check_one(p.get(), cx, hyps, node, next, 5, premises)
+        }
+        Proof::Orl(p) => {
+            let premises = rules::orl(cx, vars, goal)?;
+            check_one(p.get(), cx, hyps, node, next, 6, premises)
+        }
+        Proof::Orr(p) => {
+            let premises = rules::orr(cx, vars, goal)?;
+            check_one(p.get(), cx, hyps, node, next, 7, premises)
+        }
         Proof::Ore(a, b, p, q, r) => {
             let premises = rules::ore(cx, vars, a, b, goal)?;
             check_three(p.get(), q.get(), r.get(), cx, hyps, node, next, 8, premises)
         }
-        Proof::Impi(p) => check_one(
-            p.get(),
-            cx,
-            hyps,
-            node,
-            next,
-            9,
-            rules::impi(cx, vars, goal)?,
-        ),
-        Proof::Impe(a, p, q) => check_two(
-            p.get(),
-            q.get(),
-            cx,
-            hyps,
-            node,
-            next,
-            10,
-            rules::impe(cx, vars, a, goal)?,
-        ),
+        Proof::Impi(p) => {
+            let premises = rules::impi(cx, vars, goal)?;
+            check_one(p.get(), cx, hyps, node, next, 9, premises)
+        }
+        Proof::Impe(a, p, q) => {
+            let premises = rules::impe(cx, vars, a, goal)?;
+            check_two(p.get(), q.get(), cx, hyps, node, next, 10, premises)
+        }
         Proof::Fale(p) => check_node(p.get(), cx, vars, hyps, next, &Formula::Falsum),
         Proof::Lem => Ok(settled(node, goals::is_middle(goal), 12)),
-        Proof::Alli(p) => check_one(
-            p.get(),
-            cx,
-            hyps,
-            node,
-            next,
-            13,
-            rules::alli(cx, vars, goal)?,
-        ),
-        Proof::Alle(a, t, p) => check_one(
-            p.get(),
-            cx,
-            hyps,
-            node,
-            next,
-            14,
-            rules::alle(cx, vars, a, t, goal)?,
-        ),
-        Proof::Exi(t, p) => check_one(
-            p.get(),
-            cx,
-            hyps,
-            node,
-            next,
-            15,
-            rules::exi(cx, vars, t, goal)?,
-        ),
-        Proof::Exe(a, p, q) => check_two(
-            p.get(),
-            q.get(),
-            cx,
-            hyps,
-            node,
-            next,
-            16,
-            rules::exe(cx, vars, a, goal)?,
-        ),
+        Proof::Alli(p) => {
+            let premises = rules::alli(cx, vars, goal)?;
+            check_one(p.get(), cx, hyps, node, next, 13, premises)
+        }
+        Proof::Alle(a, t, p) => {
+            let premises = rules::alle(cx, vars, a, t, goal)?;
+            check_one(p.get(), cx, hyps, node, next, 14, premises)
+        }
+        Proof::Exi(t, p) => {
+            let premises = rules::exi(cx, vars, t, goal)?;
+            check_one(p.get(), cx, hyps, node, next, 15, premises)
+        }
+        Proof::Exe(a, p, q) => {
+            let premises = rules::exe(cx, vars, a, goal)?;
+            check_two(p.get(), q.get(), cx, hyps, node, next, 16, premises)
+        }
         Proof::Refl => Ok(settled(node, goals::is_reflexive(goal), 17)),
         Proof::Repl(a, s, t, p, q) => {
             let premises = rules::repl(cx, vars, a, s, t, goal)?;
@@ -199,24 +141,14 @@ fn check_node(
             let premises = rules::ind(cx, vars, a, t, goal)?;
             check_two(p.get(), q.get(), cx, hyps, node, next, 19, premises)
         }
-        Proof::Predi(p) => check_one(
-            p.get(),
-            cx,
-            hyps,
-            node,
-            next,
-            20,
-            rules::predi(cx, vars, goal)?,
-        ),
-        Proof::Prede(a, p) => check_one(
-            p.get(),
-            cx,
-            hyps,
-            node,
-            next,
-            21,
-            rules::prede(cx, vars, a, goal)?,
-        ),
+        Proof::Predi(p) => {
+            let premises = rules::predi(cx, vars, goal)?;
+            check_one(p.get(), cx, hyps, node, next, 20, premises)
+        }
+        Proof::Prede(a, p) => {
+            let premises = rules::prede(cx, vars, a, goal)?;
+            check_one(p.get(), cx, hyps, node, next, 21, premises)
+        }
     }
 }
 

@@ -1,6 +1,6 @@
 //! Goals of premises, made from parts.
 
-ghost use Rattle.std.specs.Prelude.{◌≡◌, IfOk, MatchOption, OnSome, Option};
+ghost use Rattle.std.specs.Prelude.{◌≡◌, IfOk};
 ghost use Rattle.pg_logic.specs.Tree as tree;
 ghost use Rattle.pg_logic.specs.Kernel as logic;
 ghost use Rattle.pg_terms.specs.View.{term, formula};

@@ -1,6 +1,6 @@
 mod spelling;
 
-use crate::{Proof, Theorems, Verdict, admit, check, uses};
+use crate::{Theorems, Verdict, admit, check, uses};
 use pg_arith::{DeclareFault, Signature};
 use pg_terms::{Formula, Name, Term};
 use sqlite_items::{Boxed, Items};

@@ -1,7 +1,7 @@
 -- Shapes and their meanings, computed. Each token stands at its number in the text.
 use Rattle.std.proofs.Common.{◌≡◌, ℕ, List, [], ◌∷◌, refl}
 use Rattle.std.specs.Prelude.{Some, None, codes}
-use Rattle.pg_logic.specs.Tree.{Tm, free, bound, nought, succ, app, none, arg, Fm, falsum, eq, pred, imp, all, ex}
+use Rattle.pg_logic.specs.Tree.{Tm, free, bound, nought, succ, app, none, arg, falsum, eq, pred, imp, all, ex}
 use Rattle.pg_logic.specs.Declarations.{NamedFunction, by_recursion, by_term, NamedPredicate, Declarations}
 use Rattle.pg_grammar.specs.Shapes.{And, Equal, NotEqual, LessEqual, Less, Plus, Times, ForAll, Exists, Word, Plain, Shape, Named, Numeral, Paren, Next, App, Neg, Quant, Binary}
 use Rattle.pg_meaning.specs.Scope.{Scope, outermost}

@@ -95,9 +95,6 @@ then_local f g lf lg t front along =
     chain t (f t.end (front ++ t.back)) (f t.other_end (front ++ t.other)) (λ p. g p.0 t.end p.1) (λ p. g p.0 t.other_end p.1) (lf t front along)
     (λ x ws a. leaves (g x) (lg x) t.Past t.end ws a t.stands) (λ x fs a. lg x t fs a)
 
-pub same_local : {V : Type 0} (f g : ℕ → List Word → Read (V × List Word)) → ((end : ℕ) (ws : List Word) → g end ws ≡ f end ws) → Local f → Local g
-same_local f g e l t front along = moved t (g t.end (front ++ t.back)) (f t.end (front ++ t.back)) (g t.other_end (front ++ t.other)) (f t.other_end (front ++ t.other)) (e t.end (front ++ t.back)) (e t.other_end (front ++ t.other)) (l t front along)
-
 -- nothing is read
 pub ok_local : {V : Type 0} (x : V) → Local (λ end ws. Ok (x, ws))
 ok_local x t [] along = past t.along
@@ -174,9 +171,6 @@ stops_map t r s k (faulty e one two at) = faulty e (ap (λ z. and_then z (λ x. 
 
 pub map_final : {V W : Type 0} (f : ℕ → List Word → Read V) (k : V → W) → Final f → Final (λ end ws. and_then (f end ws) (λ x. Ok (k x)))
 map_final f k l t front along = stops_map t (f t.end (front ++ t.back)) (f t.other_end (front ++ t.other)) k (l t front along)
-
-pub same_final : {V : Type 0} (f g : ℕ → List Word → Read V) → ((end : ℕ) (ws : List Word) → g end ws ≡ f end ws) → Final f → Final g
-same_final f g e l t front along = stops_moved t (g t.end (front ++ t.back)) (f t.end (front ++ t.back)) (g t.other_end (front ++ t.other)) (f t.other_end (front ++ t.other)) (e t.end (front ++ t.back)) (e t.other_end (front ++ t.other)) (l t front along)
 
 abbrev pub FinalBegins : {V : Type 0} → (ℕ → List Word → Read V) → Type 1
 FinalBegins f = (t : Two) (w : Word) (fs : List Word) → AtToken t.Front w.at → Along t.Front fs → Stops t (f t.end (w ∷ fs ++ t.back)) (f t.other_end (w ∷ fs ++ t.other))

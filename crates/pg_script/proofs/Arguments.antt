@@ -15,10 +15,6 @@ pub joined_first : {V : Type 0} (xs : List V) (x : V) (r : Read (List V × List 
 joined_first xs x (Ok (ys, rest)) = ap (λ zs. Ok (zs, rest)) (sym (append_assoc xs (x ∷ []) ys))
 joined_first xs x (Err e) = refl
 
-pub joined_none : {V : Type 0} (r : Read (List V × List Word)) → joined [] r ≡ r
-joined_none (Ok (ys, rest)) = refl
-joined_none (Err e) = refl
-
 pub appended_first : {V : Type 0} (xs : List V) (x : V) (r : Read (List V)) → appended xs (before x r) ≡ appended (xs ++ x ∷ []) r
 appended_first xs x (Ok ys) = ap Ok (sym (append_assoc xs (x ∷ []) ys))
 appended_first xs x (Err e) = refl

@@ -74,9 +74,6 @@ and-true true false h k = k
 same-number : (a : ℕ) → (a == a) ≡ true
 same-number a = grind (arith, nat_tests)
 
-number-same : (a b : ℕ) → (a == b) ≡ true → a ≡ b
-number-same a b h = grind (arith, nat_tests, h)
-
 number-apart : (a b : ℕ) → (a == b) ≡ false → b ≤ a → suc b ≤ a
 number-apart a b h le = grind (arith, nat_tests, h, le)
 
@@ -201,9 +198,6 @@ part_reader what u room end ws = part_at what u end ws
 part-takes : (what : Wanted) (u : Until) (end : ℕ) (v : Word) (vs tail : List Word) → length_until u end 0 0 ((v ∷ vs) ++ tail) ≡ Ok (suc (length vs)) → Takes (part_reader what u) (λ x. Unit {0}) end (v ∷ vs) tail
 part-takes what u end v vs tail is =
     (0, part_of end (suc (length vs)) (v ∷ vs ++ tail), tt, λ room le. ap (λ r. and_then r (λ n. some_part what end n (v ∷ vs ++ tail))) is ∙ some-part what end v vs tail)
-
-no-part : (what : Wanted) (end : ℕ) (ws : List Word) → some_part what end 0 ws ≡ Err (Expected (place end ws) what)
-no-part what end ws = refl
 
 -- one name is a part
 name-part : (u : Until) (end : ℕ) (tail : List Word) → Stop u tail → length_until u end 0 0 (some_name ∷ tail) ≡ Ok 1

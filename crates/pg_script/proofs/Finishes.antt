@@ -225,10 +225,6 @@ exact_ends room = then_ends IsSome Shut (λ x y. Unit {0}) (expr_reader 0) (λ x
 pub apply_ends : (room : ℕ) → Ends room (λ room n ws. apply_at n ws)
 apply_ends room = then_ends IsSome Shut (λ x y. Unit {0}) (expr_reader 0) (placed apply) (placed_follows Shut apply tt) room (expr_piece 0 room) (λ x. placed_ends apply room x)
 
--- one name is an expression up to the end
-exact-fine : Fine exact_reader (some_name ∷ [])
-exact-fine = λ n. (0, record { name = some_name; args = [] }, λ room le. refl)
-
 -- ---- forms that begin with a name
 
 abbrev names_mark : Mark → (at : ℕ) → List Word → Read (List Word)

@@ -134,9 +134,6 @@ Fit F rest tail = F tail ⊎ SameHead rest tail
 abbrev pub Takes : {X : Type 0} → Reader (X × List Word) → (X → Type 0) → (end : ℕ) → (front tail : List Word) → Type 0
 Takes {X} f R end front tail = (enough : ℕ) × (x : X) × R x × ((room : ℕ) → enough ≤ room → f room end (front ++ tail) ≡ Ok (x, tail))
 
-abbrev pub AnyValue : {X : Type 0} → X → Type 0
-AnyValue x = Unit {0}
-
 -- these tokens can be gone on with, within the line, so that they are taken
 abbrev pub Reaches : {X : Type 0} → (List Word → Type 0) → Reader (X × List Word) → List Word → Type 0
 Reaches {X} F f fr = (more : List Word) × Inline more × ((end : ℕ) (tail : List Word) → F tail → Takes f (λ x. Unit {0}) end (fr ++ more) tail)
@@ -181,10 +178,6 @@ pub same_piece_answer : {X : Type 0} (A F : List Word → Type 0) (R : X → X �
 same_piece_answer A F R f g end ws (Ok p) is h = (h.0, h.1, h.2, λ e tail fit. same-takes f g (R p.0) e h.0 tail is (h.3 e tail fit))
 same_piece_answer A F R f g end ws (Err e) is h =
     stands_map (Reaches F f) (Reaches F g) end ws e (λ fr c. (c.0, c.1, λ e2 tail t. same-takes f g (λ x. Unit {0}) e2 (fr ++ c.0) tail is (c.2 e2 tail t))) h
-
-pub same_piece : {X : Type 0} (A F : List Word → Type 0) (R : X → X → Type 0) (room : ℕ) (f g : Reader (X × List Word)) → ((room end : ℕ) (ws : List Word) → g room end ws ≡ f room end ws) → Piece A F R room f → Piece A F R room g
-same_piece {X} A F R room f g is h =
-    λ end ws. let P : Read (X × List Word) → Type 0 = PieceAnswer A F R g end ws in subst P (sym (is room end ws)) (same_piece_answer A F R f g end ws (f room end ws) is (h end ws))
 
 -- ---- one reader, and another behind it
 

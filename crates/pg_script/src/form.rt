@@ -26,8 +26,8 @@ fn no_sign(at: u32) -> ScriptFault
     }
 }
 
-/// Whether nothing is left.
-pub fn ended(tokens: &[Token<'_>]) -> Result<(), ScriptFault>
+/// Passes where nothing is left. Else a sign or the end was wanted at the first token.
+pub fn expect_end(tokens: &[Token<'_>]) -> Result<(), ScriptFault>
     ensures { Passes (end_fault (words tokens.now)) result }
 {
     match split_first(tokens) {
@@ -52,8 +52,8 @@ fn name_at<'t, 'a>(
     }
 }
 
-// Whether all tokens are names.
-fn are_names(tokens: &[Token<'_>]) -> Result<(), ScriptFault>
+// Passes where all tokens are names. Else a name was wanted at the first that is none.
+fn expect_names(tokens: &[Token<'_>]) -> Result<(), ScriptFault>
     ensures { Passes (names_fault (words tokens.now)) result }
 {
     for token in tokens {
@@ -67,8 +67,8 @@ fn are_names(tokens: &[Token<'_>]) -> Result<(), ScriptFault>
     Ok(())
 }
 
-// Whether all tokens are names, of which each is a step and so many may stand.
-fn are_steps(room: usize, tokens: &[Token<'_>]) -> Result<(), ScriptFault>
+// Passes where all tokens are names, each of which is a step, and no more than there is room for.
+fn expect_steps(room: usize, tokens: &[Token<'_>]) -> Result<(), ScriptFault>
     ensures { Passes (steps_fault room (words tokens.now)) result }
 {
     let mut left = room;
@@ -88,8 +88,8 @@ fn are_steps(room: usize, tokens: &[Token<'_>]) -> Result<(), ScriptFault>
     Ok(())
 }
 
-// Whether no parenthesis opens within too many others.
-fn are_shallow(tokens: &[Token<'_>]) -> Result<(), ScriptFault>
+// Passes where no parenthesis opens within too many others.
+fn expect_shallow(tokens: &[Token<'_>]) -> Result<(), ScriptFault>
     ensures { Passes (deep_fault 0 (words tokens.now)) result }
 {
     let mut depth: u32 = 0;
@@ -116,7 +116,7 @@ fn place_at<'a>(end: u32, tokens: &[Token<'a>]) -> Result<Option<Token<'a>>, Scr
     match mark_of(&token) {
         Mark::At => {
             let (name, rest) = name_at(end, rest)?;
-            ended(rest)?;
+            expect_end(rest)?;
             Ok(Some(name))
         }
         _ => Err(no_sign(token.at)),
@@ -273,7 +273,7 @@ fn exact_at<'a>(alloc: Global, end: u32, tokens: &[Token<'a>]) -> Result<Expr<'a
     ensures { Reads expression (exact_at end (words tokens.now)) result }
 {
     let (expr, rest) = expr_at(alloc, end, 0, tokens)?;
-    ended(rest)?;
+    expect_end(rest)?;
     Ok(expr)
 }
 
@@ -312,7 +312,7 @@ fn intro_at<'a>(
             what: Wanted::Name,
         });
     }
-    are_steps(room, tokens)?;
+    expect_steps(room, tokens)?;
     Ok(Form::Intro(Items::from_slice(alloc, tokens)?))
 }
 
@@ -325,7 +325,7 @@ fn names_after<'a>(alloc: Global, tokens: &[Token<'a>]) -> Result<Items<Token<'a
     };
     match mark_of(&token) {
         Mark::With => {
-            are_names(rest)?;
+            expect_names(rest)?;
             Ok(Items::from_slice(alloc, rest)?)
         }
         _ => Err(no_sign(token.at)),
@@ -416,7 +416,7 @@ pub fn form_at<'a>(
 {
     match head {
         Head::Plain => {
-            ended(tokens)?;
+            expect_end(tokens)?;
             Ok(Form::Plain)
         }
         Head::Exact => Ok(Form::Exact(exact_at(alloc, end, tokens)?)),
@@ -432,7 +432,7 @@ pub fn form_at<'a>(
         }
         Head::Revert => {
             let (name, rest) = name_at(end, tokens)?;
-            ended(rest)?;
+            expect_end(rest)?;
             Ok(Form::Revert(name))
         }
         Head::ByCases => {
@@ -440,7 +440,7 @@ pub fn form_at<'a>(
             cases_of(alloc, end, name, rest)
         }
         Head::Unknown => {
-            are_shallow(tokens)?;
+            expect_shallow(tokens)?;
             Ok(Form::Unknown)
         }
     }

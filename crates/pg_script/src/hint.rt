@@ -8,7 +8,7 @@ ghost use Rattle.pg_script.specs.View.{words, remark, Reads, with_rest, rest_wor
 
 use crate::expression::after_close;
 use crate::fault::ScriptFault;
-use crate::form::ended;
+use crate::form::expect_end;
 use crate::item::HintItem;
 use crate::mark::{Mark, mark_of, split_first};
 use pg_base::{Token, Wanted};
@@ -227,7 +227,7 @@ fn text_at<'a>(
     };
     match mark_of(&token) {
         Mark::Text => {
-            ended(rest)?;
+            expect_end(rest)?;
             Ok(HintItem {
                 at,
                 text: token.text,

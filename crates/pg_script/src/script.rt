@@ -9,7 +9,7 @@ ghost use Rattle.pg_script.specs.View.{words, Reads, Passes};
 
 use crate::block::{Whole, block_at};
 use crate::fault::ScriptFault;
-use crate::form::ended;
+use crate::form::expect_end;
 use crate::item::Script;
 use crate::mark::split_first;
 use pg_base::{LexFault, Lexer, Token, TokenKind};
@@ -40,7 +40,7 @@ fn script_at<'a>(
         });
     }
     let (items, _, rest) = block_at(alloc, whole, BLOCKS_LIMIT, STEPS_LIMIT, tokens)?;
-    ended(rest)?;
+    expect_end(rest)?;
     Ok(Script { items })
 }
 

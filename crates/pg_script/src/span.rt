@@ -6,7 +6,7 @@ ghost use Rattle.pg_script.specs.View.{words, part, Reads, with_rest};
 
 use crate::fault::ScriptFault;
 use crate::item::Piece;
-use crate::mark::{Mark, mark_of, place, split_first};
+use crate::mark::{Mark, mark_of, place};
 use pg_base::{Token, Wanted};
 use sqlite_items::Items;
 use std::alloc::{AllocError, Global};

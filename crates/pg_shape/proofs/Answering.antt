@@ -1,5 +1,5 @@
 -- What the reader answers is right.
-use Rattle.std.proofs.Common.{◌≡◌, ℕ, ◌+◌, ◌-◌, ◌<◌, ◌≤◌, List, [], ◌∷◌, length, drop, map, get_or, Option, Some, None, Result, Ok, Err, sym as flip, ◌∙◌, ap, refl, subst, arith}
+use Rattle.std.proofs.Common.{◌≡◌, ℕ, ◌+◌, ◌-◌, ◌<◌, ◌≤◌, List, [], ◌∷◌, length, drop, map, get_or, Some, None, Result, Ok, Err, sym as flip, ◌∙◌, ap, subst, arith}
 use Rattle.std.proofs.lemmas.List.{length-drop, length-map, drop-map, drop_more, drop_all, get_or_default}
 use Rattle.pg_base.specs.Tokens.{Word, word}
 use Rattle.pg_base.specs.declared.token.Token.{Token}
@@ -9,10 +9,8 @@ use Rattle.pg_grammar.specs.Machine.{Frame, State, Wants, step, ended, stopped, 
 use Rattle.pg_grammar.proofs.Reader.{reading-good}
 use Rattle.pg_shape.specs.View.{shape}
 use Rattle.pg_shape.specs.Symbols.{symbol}
-use Rattle.pg_shape.specs.States.{state}
-use Rattle.pg_shape.specs.Answers.{limits, place, last_words, Answer, Shaped, Broken, answer, shape_answer, Gives, IsFaultAt, IsRight, judged, Takes, Ends}
+use Rattle.pg_shape.specs.Answers.{limits, place, last_words, Broken, answer, shape_answer, Gives, IsFaultAt, IsRight, judged, Takes, Ends}
 use Rattle.pg_shape.specs.declared.shape.Shape.{Shape}
-use Rattle.pg_shape.specs.declared.state.State.{State as RustState}
 use Rattle.pg_shape.specs.declared.fault.ShapeFault.{ShapeFault}
 use Rattle.pg_shape.specs.declared.fault.ShapeFault.TheVariants.{Expected, Deep, Long, OutOfMemory}
 use Rattle.pg_shape.proofs.Reading.{refused_next, taken_next}

@@ -1,20 +1,14 @@
 -- Lists of the Rust side and of the grammar, one more at the end.
-use Rattle.std.proofs.Common.{◌≡◌, ℕ, List, [], ◌∷◌, ◌++◌, map, refl, ap, ◌∙◌, sym as flip}
-use Rattle.std.specs.Prelude.{reverse}
-use Rattle.std.proofs.lemmas.List.{map-append, reverse-append}
+use Rattle.std.proofs.Common.{◌≡◌, List, [], ◌∷◌, ◌++◌, map}
+use Rattle.std.proofs.lemmas.List.{map-append}
 use Rattle.pg_shape.specs.View.{word, bracket}
-use Rattle.pg_shape.specs.Frames.{frame, frames}
 use Rattle.pg_shape.specs.declared.shape.Word.{Word}
 use Rattle.pg_shape.specs.declared.shape.Bracket.{Bracket}
-use Rattle.pg_shape.specs.declared.frame.Frame.{Frame}
 
 pub words_push : (ws : List Word) (w : Word) → map word (ws ++ w ∷ []) ≡ map word ws ++ word w ∷ []
 words_push ws w = map-append word ws (w ∷ [])
 
 pub brackets_push : (bs : List Bracket) (b : Bracket) → map bracket (bs ++ b ∷ []) ≡ map bracket bs ++ bracket b ∷ []
 brackets_push bs b = map-append bracket bs (b ∷ [])
-
-pub frames_push : (fs : List Frame) (f : Frame) → frames (fs ++ f ∷ []) ≡ frame f ∷ frames fs
-frames_push fs f = ap reverse (map-append frame fs (f ∷ [])) ∙ reverse-append (map frame fs) (frame f ∷ [])
 
 pub ruleset reads = (words_push, brackets_push)

@@ -1,26 +1,10 @@
 -- One symbol more, and the operand that leaves a frame.
-use Rattle.std.proofs.Common.{◌≡◌, ℕ, ◌==◌, Bool, true, false, ◌||◌, cond, List, [], ◌∷◌, Option, Some, None, nat_lt, sym as flip, ◌∙◌, ap, refl, arith, ◌<◌}
+use Rattle.std.proofs.Common.{◌≡◌, ℕ, ◌==◌, Bool, true, false, cond, List, ◌∷◌, Option, Some, None, nat_lt, sym as flip, ◌∙◌, ap, refl, arith, ◌<◌}
 use Rattle.std.proofs.lemmas.Bool.Decides.{nat_tests}
-use Rattle.pg_grammar.specs.Shapes.{Op, Sym, Shape}
-use Rattle.pg_grammar.specs.Faults.{Fault, Expected, Deep, Long, Part, Found, Lost, Reading, Refused}
-use Rattle.pg_grammar.specs.Machine.{Frame, InParen, close_in, State, Operand, is_paren, place, leaving, goes_on, reduced, depth, stopped, with_next, whole}
+use Rattle.pg_grammar.specs.Shapes.{Sym, Shape}
+use Rattle.pg_grammar.specs.Faults.{Fault, Expected, Deep, Long, Part, Lost, Refused}
+use Rattle.pg_grammar.specs.Machine.{Frame, InParen, close_in, State, is_paren, depth, stopped, with_next, whole}
 use Rattle.pg_shape.specs.Answers.{judged}
-
-abbrev standing : List Frame → Shape → Operand
-standing frames s = record { frames = frames; shape = s }
-
-pub reduced_leaves : (sign : Option Op) (all frames : List Frame) (f : Frame) (s : Shape) (o : Operand) → all ≡ f ∷ frames → (is_paren f || goes_on sign (place f) s) ≡ false
-    → reduced sign all s ≡ o → reduced sign frames (leaving f s) ≡ o
-reduced_leaves sign all frames f s o e t h =
-    flip (ap (λ b. cond b (standing (f ∷ frames) s) (reduced sign frames (leaving f s))) t) ∙ flip (ap (λ l. reduced sign l s) e) ∙ h
-
-pub reduced_stays : (sign : Option Op) (all frames : List Frame) (f : Frame) (s : Shape) (o : Operand) → all ≡ f ∷ frames → (is_paren f || goes_on sign (place f) s) ≡ true
-    → reduced sign all s ≡ o → standing (f ∷ frames) s ≡ o
-reduced_stays sign all frames f s o e t h =
-    flip (ap (λ b. cond b (standing (f ∷ frames) s) (reduced sign frames (leaving f s))) t) ∙ flip (ap (λ l. reduced sign l s) e) ∙ h
-
-pub reduced_empty : (sign : Option Op) (all : List Frame) (s : Shape) (o : Operand) → all ≡ [] → reduced sign all s ≡ o → standing [] s ≡ o
-reduced_empty sign all s o e h = flip (ap (λ l. reduced sign l s) e) ∙ h
 
 -- ---- one token more
 

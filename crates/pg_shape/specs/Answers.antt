@@ -1,5 +1,5 @@
 -- What the reading of tokens answers.
-use Rattle.std.specs.Prelude.{ℕ, ◌≡◌, ◌-◌, ◌==◌, nat_lt, List, [], ◌∷◌, ◌++◌, length, drop, map, Option, Some, None, Result, Ok, Err, if◌then◌else◌}
+use Rattle.std.specs.Prelude.{ℕ, ◌≡◌, ◌-◌, ◌==◌, nat_lt, List, [], ◌∷◌, length, drop, map, Option, Some, None, Result, Ok, Err, if◌then◌else◌}
 use Rattle.pg_base.specs.Tokens.{Word}
 use Rattle.pg_grammar.specs.Shapes as grammar
 use Rattle.pg_grammar.specs.Faults as faults

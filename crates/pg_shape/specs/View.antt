@@ -1,5 +1,5 @@
 -- The shapes of the grammar that the Rust types stand for.
-use Rattle.std.specs.Prelude.{List, map}
+use Rattle.std.specs.Prelude.{map}
 use Rattle.pg_grammar.specs.Shapes as grammar
 use Rattle.pg_shape.specs.declared.shape.Op.{Op}
 use Rattle.pg_shape.specs.declared.shape.Op.TheVariants.{Implies, Or, And, Equal, NotEqual, LessEqual, Less, Plus, Times, Power}

@@ -4,7 +4,7 @@ ghost use Rattle.pg_grammar.specs.Machine as machine;
 ghost use Rattle.pg_shape.specs.View.{shape};
 ghost use Rattle.pg_shape.specs.Frames.{frame};
 
-use crate::shape::{Binders, Op, Quantifier, Shape};
+use crate::shape::{ATOM, Binders, NEGATION, Op, Quantifier, Shape};
 use sqlite_items::Boxed;
 use std::alloc::{AllocError, Global};
 
@@ -32,8 +32,8 @@ impl<'a> Frame<'a> {
     {
         match self {
             Frame::Paren(_) | Frame::Quant(..) => 0,
-            Frame::Next(_) | Frame::Arg(_) => 101,
-            Frame::Neg(_) => 40,
+            Frame::Next(_) | Frame::Arg(_) => ATOM,
+            Frame::Neg(_) => NEGATION,
             Frame::Binary(_, op, _) => op.right_min(),
         }
     }

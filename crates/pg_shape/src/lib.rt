@@ -15,4 +15,6 @@ mod tests;
 
 pub use fault::ShapeFault;
 pub use reader::shape_of;
-pub use shape::{Binders, Bracket, Group, Op, Quantifier, Shape, Word};
+pub use shape::{
+    APPLICATION, ATOM, Binders, Bracket, Group, NEGATION, Op, Quantifier, Shape, Word,
+};

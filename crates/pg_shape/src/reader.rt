@@ -1,5 +1,5 @@
 // The shape of tokens, read from the left.
-ghost use Rattle.std.specs.Prelude.{◌≡◌, map};
+ghost use Rattle.std.specs.Prelude.{map};
 ghost use Rattle.pg_base.specs.Tokens.{word};
 ghost use Rattle.pg_grammar.specs.Machine as machine;
 ghost use Rattle.pg_shape.specs.Symbols.{symbol as symbol_of};

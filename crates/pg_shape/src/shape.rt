@@ -1,9 +1,18 @@
 // Shapes of terms and formulas.
-ghost use Rattle.std.specs.Prelude.{◌≡◌, ◌≤◌};
+ghost use Rattle.std.specs.Prelude.{◌≡◌};
 ghost use Rattle.pg_grammar.specs.Shapes as grammar;
 ghost use Rattle.pg_shape.specs.View.{op, shape};
 
 use sqlite_items::{Boxed, Items};
+
+/// How strong an atom is: stronger than all else.
+pub const ATOM: u8 = 101;
+
+/// How strong an application, `succ` and a quantifier are: stronger than all signs.
+pub const APPLICATION: u8 = 100;
+
+/// How strong a negation is.
+pub const NEGATION: u8 = 40;
 
 /// A sign between two operands.
 #[derive(Clone, Copy, Debug, PartialEq, Eq)]
@@ -140,14 +149,14 @@ impl Op {
 }
 
 impl<'a> Shape<'a> {
-    /// How strong the shape is: an application is stronger than all signs, an atom stronger still.
+    /// How strong the shape is.
     pub fn strength(&self) -> u8
         ensures { result ≡ grammar.strength (shape self.now) }
     {
         match self {
-            Shape::Named(_) | Shape::Numeral(_) | Shape::Falsum(_) | Shape::Paren(..) => 101,
-            Shape::Next(..) | Shape::App(..) | Shape::Quant(..) => 100,
-            Shape::Neg(..) => 40,
+            Shape::Named(_) | Shape::Numeral(_) | Shape::Falsum(_) | Shape::Paren(..) => ATOM,
+            Shape::Next(..) | Shape::App(..) | Shape::Quant(..) => APPLICATION,
+            Shape::Neg(..) => NEGATION,
             Shape::Binary(_, op, _, _) => op.level(),
         }
     }

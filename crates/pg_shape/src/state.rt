@@ -10,7 +10,7 @@ ghost use Rattle.pg_shape.specs.States.{stack as frames_in, state, operand};
 
 use crate::frame::Frame;
 use crate::heading::Heading;
-use crate::shape::{Op, Quantifier, Shape};
+use crate::shape::{APPLICATION, NEGATION, Op, Quantifier, Shape};
 use crate::stack::Stack;
 use crate::symbol::Sym;
 use pg_base::Wanted;
@@ -131,19 +131,19 @@ fn wants<'a>(
         Sym::Number(n) => settled_atom(alloc, frames, Shape::Numeral(n)),
         Sym::False(at) => settled_atom(alloc, frames, Shape::Falsum(at)),
         Sym::Succ(at) => {
-            if frames.wanted() > 100 {
+            if frames.wanted() > APPLICATION {
                 return Ok(None);
             }
             Ok(Some(State::Wants(frames.pushed(Frame::Next(at))?)))
         }
         Sym::Not(at) => {
-            if frames.wanted() > 40 {
+            if frames.wanted() > NEGATION {
                 return Ok(None);
             }
             Ok(Some(State::Wants(frames.pushed(Frame::Neg(at))?)))
         }
         Sym::Quantifier(at, q) => {
-            if frames.wanted() > 100 {
+            if frames.wanted() > APPLICATION {
                 return Ok(None);
             }
             Ok(Some(State::Binds(frames, at, q, Heading::Unnamed)))

@@ -2,7 +2,7 @@
 -- where ^ has one parameter but does not occur.
 use Rattle.std.proofs.Common.{◌≡◌, ℕ, zero, suc, ◌≤◌, List, [], ◌∷◌, codes, sym, refl, subst, arith}
 use Rattle.std.specs.Prelude.{true, Some, slice_get, take}
-use Rattle.std.specs.Str.{chars, encode_utf8_all, all_scalars}
+use Rattle.std.specs.Str.{encode_utf8_all, all_scalars}
 use Rattle.std.proofs.lemmas.Str.{chars-encodes}
 use Rattle.pg_base.specs.declared.token.TokenKind.TheVariants as kind
 use Rattle.pg_base.specs.Layout.{IsToken}

@@ -1,17 +1,10 @@
 -- What is read is right, and fits.
-use Rattle.std.proofs.Common.{◌≡◌, ◌≢◌, ◌⊎◌, inl, inr, ℕ, ◌+◌, ◌*◌, ◌≤◌, ◌<◌, ◌^◌, true, false, IsTrue, List, [], ◌∷◌, ◌++◌, length, map, Option, Some, None, Result, Ok, Err, All, IfOk, refl, ap, ◌∙◌, sym, subst, arith}
-use Rattle.std.specs.Str.{bytes_eq, chars}
-use Rattle.std.specs.Prelude.{codes, get_or}
+use Rattle.std.proofs.Common.{◌≡◌, inl, inr, ℕ, true, List, length, map, Option, Some, None, Result, Ok, Err, IfOk, refl, ap, ◌∙◌, subst}
 use Rattle.pg_base.specs.Tokens.{Word as Lexeme}
-use Rattle.pg_base.specs.Spans.{IsTokenText}
-use Rattle.pg_base.specs.Reserved.{is_reserved}
-use Rattle.pg_base.specs.declared.token.TokenKind.{TokenKind}
-use Rattle.pg_base.specs.declared.token.TokenKind.TheVariants as kind
 use Rattle.pg_logic.specs.Tree.{Tm, Fm}
 use Rattle.pg_logic.specs.Signature.{fits, fits_term}
 use Rattle.pg_logic.specs.Declarations.{signature_of}
-use Rattle.pg_grammar.specs.Shapes.{Sym, Name, Word, Group, Bracket, Binders, Plain, Typed, Grouped, names, plain, typed, bracketed, all_bracketed, binders, Shape, Named, Numeral, Falsum, Paren, Next, App, Neg, Quant, Binary, spelled, IsShape}
-use Rattle.pg_grammar.specs.Printing.{group_words, bracket_words, binder_words}
+use Rattle.pg_grammar.specs.Shapes.{binders, Shape, spelled}
 use Rattle.pg_grammar.specs.Faults as shapes
 use Rattle.pg_grammar.specs.Machine.{read}
 use Rattle.pg_grammar.proofs.Reader.{reading-good}
@@ -19,7 +12,6 @@ use Rattle.pg_meaning.specs.Scope.{Scope}
 use Rattle.pg_meaning.specs.Faults as meaning
 use Rattle.pg_meaning.specs.Meaning.{term_of, formula_of}
 use Rattle.pg_meaning.specs.Live.{is_live, is_live_formula}
-use Rattle.pg_meaning.specs.Spelling.{SpellsTerm, SpellsFormula, HasFirstFault}
 use Rattle.pg_meaning.proofs.Fitting.{term-fit, formula-fit}
 use Rattle.pg_meaning.proofs.Living.{term-live, formula-live}
 use Rattle.pg_terms.specs.declared.term.Term.{Term}
@@ -29,7 +21,7 @@ use Rattle.pg_shape.specs.Symbols.{symbol}
 use Rattle.pg_shape.specs.Answers.{limits, Answer as ShapeAnswer, Shaped, Broken, answer, shape_answer}
 use Rattle.pg_shape.specs.declared.fault.ShapeFault.TheVariants as at_shape
 use Rattle.pg_shape.proofs.Answering.{right as shape-right}
-use Rattle.pg_syntax.specs.Answers.{Answer, Read, Misshapen, Meaningless, faultless, meant, term_answer, formula_answer, IsExpected, Gives, IsTerm, IsFormula, IsMeaningFault, IsRightFault, IsRightTerm, IsRightFormula}
+use Rattle.pg_syntax.specs.Answers.{Read, Misshapen, faultless, meant, term_answer, formula_answer, Gives, IsMeaningFault, IsRightFault, IsRightTerm, IsRightFormula}
 use Rattle.pg_syntax.specs.declared.fault.SyntaxFault.{SyntaxFault}
 use Rattle.pg_syntax.specs.declared.fault.SyntaxFault.TheVariants.{Expected, Unknown, Arity, Deep, Long, OutOfMemory}
 

@@ -1,10 +1,10 @@
 -- Applications taken apart.
-use Rattle.std.proofs.Common.{◌≡◌, ℕ, List, [], ◌∷◌, ◌++◌, Option, None, refl, ap, ◌∙◌, sym, subst}
+use Rattle.std.proofs.Common.{◌≡◌, ℕ, List, [], ◌∷◌, ◌++◌, Option, refl, ap, sym}
 use Rattle.std.specs.Option.{option_or}
 use Rattle.pg_meaning.specs.Faults as meaning
 use Rattle.pg_syntax.specs.declared.fault.SyntaxFault.{SyntaxFault}
 use Rattle.pg_syntax.specs.declared.fault.SyntaxFault.TheVariants.{Expected, Unknown, Arity, Deep, Long, OutOfMemory}
-use Rattle.pg_logic.specs.Tree.{Tm, app, Tms, none, arg, Fm, pred}
+use Rattle.pg_logic.specs.Tree.{app, none, arg, pred}
 use Rattle.pg_grammar.specs.Shapes.{Shape, Named, Numeral, Falsum, Paren, Next, App, Neg, Quant, Binary}
 use Rattle.pg_meaning.specs.Scope.{Scope}
 use Rattle.pg_meaning.specs.Meaning.{with_last, applied, term_of, holds_at, formula_of}
@@ -45,8 +45,5 @@ first_fault o p (Arity at has needs) h = ap (λ o. option_or o p) h
 first_fault o p OutOfMemory h = tt
 first_fault o p (Deep at) h = absurd h
 first_fault o p (Long at) h = absurd h
-
-pub later_fault : (o p : Option meaning.Fault) (e : SyntaxFault) → o ≡ None → IsFault p e → IsFault (option_or o p) e
-later_fault o p e is h = subst (λ o. IsFault (option_or o p) e) (sym is) h
 
 pub ruleset calls = (args-push, function_call, predicate_call)

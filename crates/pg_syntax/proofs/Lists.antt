@@ -1,10 +1,9 @@
 -- Lists of names, a piece at a time.
-use Rattle.std.proofs.Common.{◌≡◌, ℕ, zero, suc, ◌+◌, ◌-◌, ◌<◌, ◌≤◌, Bool, true, false, cond, ◌||◌, List, [], ◌∷◌, ◌++◌, length, take, drop, map, reverse, get_or, refl, ap, sym, ◌∙◌, arith, length-append}
+use Rattle.std.proofs.Common.{◌≡◌, ℕ, zero, suc, ◌+◌, ◌-◌, ◌<◌, ◌≤◌, Bool, true, false, cond, ◌||◌, List, [], ◌∷◌, ◌++◌, length, take, map, reverse, get_or, refl, ap, sym, ◌∙◌, arith, length-append}
 use Rattle.std.specs.Prelude.{Option, Some, None, is_some, position, nat_lt, ◌^◌, decimal}
 use Rattle.std.specs.Char.{is_ascii_digit}
 use Rattle.std.specs.List.{list_any, position_or_len}
 use Rattle.std.specs.Str.{bytes_eq}
-use Rattle.std.proofs.Math.Seq.{drop-cons}
 use Rattle.std.proofs.lemmas.Bool.{false≢true}
 use Rattle.std.proofs.lemmas.Bool.Decides.{nat_tests}
 use Rattle.std.proofs.lemmas.List.{take_more, reverse-append, length-reverse}
@@ -17,14 +16,6 @@ use Rattle.std.proofs.lemmas.Fmt.{decimal_nonempty}
 
 -- ---- look-ups
 
--- one that is found
-pub any_found : (p : Name → Bool) (names : List Name) (i : ℕ) (d : Name) → i < length names → p (get_or names i d) ≡ true → list_any p (drop i names) ≡ true
-any_found p names i d lt is = ap (list_any p) (drop-cons names i d lt) ∙ ap (λ b. b || list_any p (drop (suc i) names)) is
-
--- one that isn't
-pub any_passed : (p : Name → Bool) (names : List Name) (i : ℕ) (d : Name) → i < length names → p (get_or names i d) ≡ false → list_any p (drop i names) ≡ list_any p (drop (suc i) names)
-any_passed p names i d lt is = ap (list_any p) (drop-cons names i d lt) ∙ ap (λ b. b || list_any p (drop (suc i) names)) is
-
 pub live-append : (xs ys : List (Option Name)) → live (xs ++ ys) ≡ live xs ++ live ys
 live-append [] ys = refl
 live-append (None ∷ xs) ys = live-append xs ys
@@ -34,13 +25,6 @@ pub live-length : (xs : List (Option Name)) → length (live xs) ≤ length xs
 live-length [] = omega arith
 live-length (None ∷ xs) = omega (arith, live-length xs)
 live-length (Some x ∷ xs) = omega (arith, live-length xs)
-
--- the next variable
-pub live-dead : (vars : List (Option Name)) (i : ℕ) (d : Option Name) → i < length vars → get_or vars i d ≡ None → live (drop i vars) ≡ live (drop (suc i) vars)
-live-dead vars i d lt is = ap live (drop-cons vars i d lt) ∙ ap (λ o. live (o ∷ drop (suc i) vars)) is
-
-pub live-alive : (vars : List (Option Name)) (i : ℕ) (d : Option Name) (x : Name) → i < length vars → get_or vars i d ≡ Some x → live (drop i vars) ≡ x ∷ live (drop (suc i) vars)
-live-alive vars i d x lt is = ap live (drop-cons vars i d lt) ∙ ap (λ o. live (o ∷ drop (suc i) vars)) is
 
 -- a place is found exactly where one passes
 below-suc : (a b : ℕ) → is_some (cond (nat_lt (suc a) (suc b)) (Some (suc a)) None) ≡ is_some (cond (nat_lt a b) (Some a) None)
@@ -179,9 +163,6 @@ fresh-turned names declared x =
 
 pub decimal-some : (front : Name) (n : ℕ) → n < 2 ^ 64 → numbered front n ≡ [] → ⊥
 decimal-some front n lt e = absurd (omega (arith, length-append front (decimal n), ap length e, decimal_nonempty n lt))
-
-pub free-end : (names : List Name) (front : Name) (room i : ℕ) → i ≡ room → free_number names front (room - i) (i + 1) ≡ room + 1
-free-end names front room i e = let none : room - i ≡ 0 = omega arith in ap (λ more. free_number names front more (i + 1)) none ∙ ap (λ k. k + 1) e
 
 pub free-here : (names : List Name) (front : Name) (room i : ℕ) → i < room → is_taken names (numbered front (i + 1)) ≡ false → free_number names front (room - i) (i + 1) ≡ i + 1
 free-here names front room i lt is = free-step names front room i lt ∙ ap (λ b. cond b (free_number names front (room - (i + 1)) (i + 1 + 1)) (i + 1)) is

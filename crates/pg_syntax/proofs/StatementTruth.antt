@@ -1,17 +1,17 @@
 -- The closed formula of a statement fits no variable, and is true where the hypotheses entail the target.
-use Rattle.std.proofs.Common.{◌≡◌, ℕ, ◌+◌, ◌<◌, ◌↔◌, Bool, true, false, cond, List, [], ◌∷◌, ◌++◌, length, refl, arith, ap, sym, ◌∙◌, subst, length-append, ⊎_elim}
-use Rattle.std.specs.Prelude.{slice_index, nat_lt, ◌==◌}
+use Rattle.std.proofs.Common.{◌≡◌, ℕ, ◌+◌, ◌<◌, ◌↔◌, true, List, [], ◌∷◌, ◌++◌, length, refl, arith, ap, sym, ◌∙◌, subst, length-append, ⊎_elim}
+use Rattle.std.specs.Prelude.{slice_index}
 use Rattle.std.proofs.lemmas.Bool.{and_from, lt-ltb, eq-eqb, ne_eqb, cases_order}
 use Rattle.std.proofs.lemmas.List.{append_assoc, append-nil}
 use Rattle.std.proofs.Math.Seq.{get_or-append_seam}
 use Rattle.std.proofs.Math.ListN.{get_or-append}
 use Rattle.pg_logic.specs.Tree.{Tm, free, bound, Fm, closed_free, closed_over_formula, kept_bound}
-use Rattle.pg_logic.specs.Signature.{Function, Signature, fits_term, fits}
+use Rattle.pg_logic.specs.Signature.{Signature, fits_term, fits}
 use Rattle.pg_logic.specs.Value.{Functions, value, functions_of}
 use Rattle.pg_logic.specs.Truth.{Predicates, IsTrueIn, IsTrueOf, predicates_of}
 use Rattle.pg_logic.specs.Sound.{AreTrueOf, Entails}
-use Rattle.pg_logic.proofs.Truths.{Leaves, Follows, truth-mapped, truth-agrees}
-use Rattle.pg_logic.proofs.Fitting.{Lands, Keeps, fits-mapped}
+use Rattle.pg_logic.proofs.Truths.{Follows, truth-mapped, truth-agrees}
+use Rattle.pg_logic.proofs.Fitting.{Keeps, fits-mapped}
 use Rattle.pg_terms.specs.View.{formula}
 use Rattle.pg_syntax.specs.declared.statement.Binder.{Binder}
 use Rattle.pg_syntax.specs.declared.statement.Binder.TheVariants.{Var, Hyp}

@@ -1,13 +1,11 @@
 -- Texts of words, and formulas under binders of these names.
-use Rattle.std.proofs.Common.{◌≡◌, ◌≢◌, ℕ, ◌+◌, ◌<◌, ◌≤◌, List, [], ◌∷◌, ◌++◌, length, map, take, drop, get_or, refl, ap, ◌∙◌, sym, arith, append_assoc, length-append}
-use Rattle.std.proofs.lemmas.List.{map-append, drop_more, take_all, drop_all, take-append-le, drop-append-le}
+use Rattle.std.proofs.Common.{◌≡◌, ℕ, ◌+◌, ◌<◌, ◌≤◌, List, [], ◌∷◌, ◌++◌, length, take, drop, get_or, refl, ap, ◌∙◌, sym, arith, append_assoc, length-append}
+use Rattle.std.proofs.lemmas.List.{map-append, drop_more, take-append-le, drop-append-le}
 use Rattle.pg_logic.specs.Tree.{Fm}
-use Rattle.pg_grammar.specs.Shapes.{Quantifier, Word, Group, Bracket}
-use Rattle.pg_grammar.specs.Printing.{group_words, bracket_words}
+use Rattle.pg_grammar.specs.Shapes.{Quantifier, Word}
 use Rattle.pg_meaning.specs.Meaning.{quantified}
 use Rattle.pg_shape.specs.declared.shape.Word.{Word as RustWord}
 use Rattle.pg_shape.specs.declared.shape.Bracket.{Bracket as RustBracket}
-use Rattle.pg_shape.specs.View.{word, bracket}
 use Rattle.pg_syntax.specs.Steps.{AreTexts, texts, bound_names}
 
 pub texts-append : (xs ys : List Word) → texts (xs ++ ys) ≡ texts xs ++ texts ys

@@ -3,7 +3,7 @@ use Rattle.std.proofs.Common.{◌≡◌, ℕ, List, rules}
 use Rattle.pg_logic.specs.Tree.{app, pred}
 use Rattle.pg_grammar.specs.Shapes as grammar
 use Rattle.pg_terms.specs.declared.term.Term.{Term, App as TermApp, the_lemmas as term_lemmas}
-use Rattle.pg_terms.specs.declared.formula.Formula.{Formula, Pred, the_lemmas as formula_lemmas}
+use Rattle.pg_terms.specs.declared.formula.Formula.{Pred, the_lemmas as formula_lemmas}
 use Rattle.pg_terms.specs.View.{term, args, formula}
 use Rattle.pg_shape.specs.declared.shape.Op.{Op}
 use Rattle.pg_shape.specs.declared.shape.Quantifier.{Quantifier}

@@ -1,12 +1,11 @@
 -- How strong printed trees are, and what their parts are.
-use Rattle.std.proofs.Common.{◌≡◌, ℕ, ◌<◌, ◌≤◌, Bool, true, false, cond, List, [], ◌∷◌, ◌++◌, length, codes, refl, ap, sym, ◌∙◌, arith, append_assoc, append-nil}
-use Rattle.std.specs.Prelude.{Option, Some, None, option_map, nat_lt, ◌==◌, Result, Ok, Err, OnOk, IfOk}
+use Rattle.std.proofs.Common.{◌≡◌, ℕ, ◌<◌, Bool, true, false, cond, List, [], ◌∷◌, ◌++◌, length, codes, refl, ap, sym, ◌∙◌, arith, append_assoc, append-nil}
+use Rattle.std.specs.Prelude.{Option, Some, None, option_map, ◌==◌, Result, Ok, Err, OnOk, IfOk}
 use Rattle.std.proofs.lemmas.Bool.{false≢true}
-use Rattle.std.proofs.lemmas.Bool.Decides.{nat_tests}
 use Rattle.pg_logic.specs.Tree.{Tm, Tms, none, arg, Fm, falsum, eq, pred, and, or, imp, all, ex}
 use Rattle.pg_logic.specs.Declarations.{Name}
-use Rattle.pg_grammar.specs.Shapes.{Op, Implies, Or, And, Equal, NotEqual, LessEqual, Less, Plus, Times, Power, Shape, Named, Numeral, Falsum, Paren, Next, App, Neg, Quant, Binary, level, left_min, right_min, strength}
-use Rattle.pg_grammar.specs.Printing.{Join, Arrow, Either, Both, Equals, AtMost, Below, Sum, Product, Raised, sign_of, Tree, Ended, Call, Number, is_quant, operand, joined, negated, applied, unplaced, shape_of, shapes_of}
+use Rattle.pg_grammar.specs.Shapes.{Op, Implies, Or, And, Equal, NotEqual, LessEqual, Less, Plus, Times, Power, Shape, Named, Numeral, Falsum, Paren, Next, App, Neg, Quant, Binary, level, left_min, right_min}
+use Rattle.pg_grammar.specs.Printing.{Join, Arrow, Either, Both, Equals, AtMost, Below, Sum, Product, Raised, sign_of, Tree, Ended, Call, Number, operand, joined, negated, applied, unplaced, shape_of, shapes_of}
 use Rattle.std.specs.Str.{bytes_eq}
 use Rattle.pg_terms.specs.declared.term.Term.{Term}
 use Rattle.pg_terms.specs.View.{term, args}
@@ -115,19 +114,8 @@ written-other s name (a ∷ b ∷ d ∷ ts) h = written-call s name (args (a ∷
 
 -- ---- weights
 
-weight-alone : (name : Name) → weight (shape_of (alone name)) ≡ 101
-weight-alone name = by_digit (begins_with_digit name)
-  where
-    by_digit : (b : Bool) → weight (shape_of (cond b (Number name) (Call name Ended))) ≡ 101
-    by_digit true = refl
-    by_digit false = refl
-
 weight-call : (s : Scope) (name : Name) (t : Tm) (ts : Tms) → weight (shape_of (Call name (named_all s (arg t ts)))) ≡ 100
 weight-call s name t ts = weight-applied (Named (unplaced name)) (operand 101 (shape_of (named s t))) (shapes_of (named_all s ts))
-
-pub weight-none : (s : Scope) (name : Name) (ts : List Term) → length ts ≡ 0 → weight (shape_of (at_arguments name (named_all s (args ts)))) ≡ 101
-weight-none s name [] e = weight-alone name
-weight-none s name (t ∷ ts) e = absurd (omega (arith, e))
 
 pub weight-other : (s : Scope) (name : Name) (ts : List Term) → (length ts ≡ 0 → ⊥) → (length ts ≡ 2 → ⊥) → weight (shape_of (at_arguments name (named_all s (args ts)))) ≡ 100
 weight-other s name [] h k = absurd (h refl)
@@ -148,21 +136,6 @@ weight-no_sign s name [] e is = absurd (omega (arith, e))
 weight-no_sign s name (a ∷ []) e is = absurd (omega (arith, e))
 weight-no_sign s name (a ∷ b ∷ []) e is = ap (λ o. weight (shape_of (between o name (named s (term a)) (named s (term b))))) (no_sign name is) ∙ weight-call s name (term a) (args (b ∷ []))
 weight-no_sign s name (a ∷ b ∷ d ∷ ts) e is = absurd (omega (arith, e))
-
--- an operand, by its weight
-pub operand-held : (least : ℕ) (s : Shape) → weight s < least → operand_text least s ≡ codes "(" ++ (written s ++ codes ")")
-operand-held least s lt = by_quant (is_quant s) refl
-  where
-    by_quant : (b : Bool) → is_quant s ≡ b → operand_text least s ≡ codes "(" ++ (written s ++ codes ")")
-    by_quant true is = rw is refl
-    by_quant false is = let low : nat_lt (strength s) least ≡ true = grind (arith, nat_tests, sym (ap (λ b. cond b 0 (strength s)) is), lt) in rw (is, low) refl
-
-pub operand-bare : (least : ℕ) (s : Shape) → 0 < least → least ≤ weight s → operand_text least s ≡ written s
-operand-bare least s some le = by_quant (is_quant s) refl
-  where
-    by_quant : (b : Bool) → is_quant s ≡ b → operand_text least s ≡ written s
-    by_quant true is = absurd (omega (arith, some, le, ap (λ b. cond b 0 (strength s)) is))
-    by_quant false is = let high : nat_lt (strength s) least ≡ false = grind (arith, nat_tests, sym (ap (λ b. cond b 0 (strength s)) is), le) in rw (is, high) refl
 
 -- ---- the table
 
@@ -306,6 +279,3 @@ unequal-whole s a (or c d) x y is h = cc
 unequal-whole s a (imp c d) x y is h = cc
 unequal-whole s a (all z c) x y is h = cc
 unequal-whole s a (ex z c) x y is h = cc
-
-pub arrow-whole : (s : Scope) (a b : Fm) → is_falsum b ≡ false → shape_of (named_formula s (imp a b)) ≡ joined Implies (shape_of (named_formula s a)) (shape_of (named_formula s b))
-arrow-whole s a b h = arrow-other s a b (λ e. absurd (false≢true (sym h ∙ ap is_falsum e)))

@@ -1,13 +1,13 @@
 -- A shape means what its parts mean together.
-use Rattle.std.proofs.Common.{◌≡◌, ℕ, Option, Some, None, refl, ap, ◌∙◌, sym, subst}
+use Rattle.std.proofs.Common.{◌≡◌, ℕ, Option, Some, None, ap, ◌∙◌, sym, subst}
 use Rattle.std.specs.Option.{option_or}
-use Rattle.pg_logic.specs.Tree.{Tm, app, Tms, none, arg, Fm, pred}
+use Rattle.pg_logic.specs.Tree.{Tm, app, Tms, none}
 use Rattle.pg_grammar.specs.Shapes.{Op, Shape, App, Binary}
-use Rattle.pg_meaning.specs.Scope.{Scope, function_named, predicate_named, sign_text, sign_needs}
+use Rattle.pg_meaning.specs.Scope.{Scope, function_named, sign_text, sign_needs}
 use Rattle.pg_meaning.specs.Faults as meaning
-use Rattle.pg_meaning.specs.Meaning.{with_last, applied, two, function_term, term_of, holds_at, formula_of}
-use Rattle.pg_syntax.specs.Steps.{fault_from, head_term, head_formula, arguments}
-use Rattle.pg_syntax.proofs.Calls.{function_call, predicate_call}
+use Rattle.pg_meaning.specs.Meaning.{with_last, applied, two, function_term, term_of}
+use Rattle.pg_syntax.specs.Steps.{fault_from, head_term, arguments}
+use Rattle.pg_syntax.proofs.Calls.{function_call}
 
 -- no fault anywhere
 pub none-of : (o p : Option meaning.Fault) → o ≡ None → p ≡ None → option_or o p ≡ None

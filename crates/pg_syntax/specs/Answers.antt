@@ -2,7 +2,7 @@
 use Rattle.std.specs.Prelude.{ℕ, ◌≡◌, ◌⊎◌, List, map, Option, Some, None, Result, Ok, Err}
 use Rattle.pg_base.specs.Tokens.{Word}
 use Rattle.pg_logic.specs.Tree.{Tm, Fm}
-use Rattle.pg_grammar.specs.Shapes.{Sym, Shape}
+use Rattle.pg_grammar.specs.Shapes.{Shape}
 use Rattle.pg_grammar.specs.Faults as shapes
 use Rattle.pg_meaning.specs.Scope.{Scope}
 use Rattle.pg_meaning.specs.Faults as meaning

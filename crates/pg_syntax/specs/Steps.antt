@@ -21,10 +21,10 @@ IsFault fault (Deep at) = ⊥
 IsFault fault (Long at) = ⊥
 IsFault fault OutOfMemory = Unit {0}
 
--- what is meant where there is no fault, else the fault
-abbrev pub Means : {X Y : Type 0} → (X → Y) → Option meaning.Fault → Y → Result X SyntaxFault → Type 0
-Means view fault y (Ok x) = (fault ≡ None) × (view x ≡ y)
-Means view fault y (Err e) = IsFault fault e
+-- a result is what is meant where there is no fault, and else the fault
+abbrev pub Yields : {X Y : Type 0} → (X → Y) → Option meaning.Fault → Y → Result X SyntaxFault → Type 0
+Yields view fault y (Ok x) = (fault ≡ None) × (view x ≡ y)
+Yields view fault y (Err e) = IsFault fault e
 
 -- the first fault of a shape that begins at this byte, the parentheses around it included
 abbrev pub fault_from : Scope → meaning.Sort → ℕ → Shape → Option meaning.Fault

@@ -1,5 +1,5 @@
 // A name, a number or a sign at its arguments.
-ghost use Rattle.std.specs.Prelude.{◌≡◌, ◌+◌, ◌^◌, ◌<◌, ℕ, Option, Some, true, length, option_map, OnOk};
+ghost use Rattle.std.specs.Prelude.{◌≡◌, ◌+◌, ◌^◌, ◌<◌, ℕ, Some, true, length, option_map, OnOk};
 ghost use Rattle.std.specs.Option.{option_or};
 ghost use Rattle.pg_logic.specs.Tree.{app, pred, none};
 ghost use Rattle.pg_grammar.specs.Shapes.{can_apply};
@@ -10,7 +10,7 @@ ghost use Rattle.pg_terms.specs.View.{term};
 ghost use Rattle.pg_arith.specs.View.{declarations};
 ghost use Rattle.pg_shape.specs.View.{shape as shape_in, op as sign};
 ghost use Rattle.pg_syntax.specs.View.{scope as scope_in, HasRoom};
-ghost use Rattle.pg_syntax.specs.Steps.{Means, head_term, head_formula, nodes, IsReadable};
+ghost use Rattle.pg_syntax.specs.Steps.{Yields, head_term, head_formula, nodes, IsReadable};
 
 use crate::fault::SyntaxFault;
 use crate::place::beginning;
@@ -24,7 +24,7 @@ use std::alloc::Global;
 
 // The number of what stands at this byte, if it has as many arguments as it needs.
 fn counted(at: u32, has: u16, needs: u16, id: u16) -> Result<u16, SyntaxFault>
-    ensures { Means (λ (n : ℕ). n) (meaning.use_fault at has (Some needs)) id result }
+    ensures { Yields (λ (n : ℕ). n) (meaning.use_fault at has (Some needs)) id result }
 {
     if has == needs {
         Ok(id)
@@ -62,7 +62,7 @@ pub fn called_function(
     requires applies { can_apply (shape_in applied.now) ≡ true }
     requires more { 0 < count }
     requires small { count + nodes (shape_in applied.now) < 2 ^ 16 }
-    ensures { Means (λ (f : ℕ). app f none) (option_or (meaning.misfit meaning.TermSort (meaning.sort (scope_in scope.now) (shape_in applied.now)) (meaning.beginning (shape_in whole.now))) (meaning.head_fault (scope_in scope.now) count (shape_in applied.now))) (head_term (scope_in scope.now) (shape_in applied.now)) result }
+    ensures { Yields (λ (f : ℕ). app f none) (option_or (meaning.misfit meaning.TermSort (meaning.sort (scope_in scope.now) (shape_in applied.now)) (meaning.beginning (shape_in whole.now))) (meaning.head_fault (scope_in scope.now) count (shape_in applied.now))) (head_term (scope_in scope.now) (shape_in applied.now)) result }
 {
     match applied {
         Shape::Named(x) => match scope.looked_up(x.text) {
@@ -100,7 +100,7 @@ pub fn called_predicate(
     requires readable { IsReadable (shape_in applied.now) }
     requires applies { can_apply (shape_in applied.now) ≡ true }
     requires small { count + nodes (shape_in applied.now) < 2 ^ 16 }
-    ensures { Means (λ (p : ℕ). pred p none) (option_or (meaning.misfit meaning.FormulaSort (meaning.sort (scope_in scope.now) (shape_in applied.now)) (meaning.beginning (shape_in whole.now))) (meaning.head_fault (scope_in scope.now) count (shape_in applied.now))) (head_formula (scope_in scope.now) (shape_in applied.now)) result }
+    ensures { Yields (λ (p : ℕ). pred p none) (option_or (meaning.misfit meaning.FormulaSort (meaning.sort (scope_in scope.now) (shape_in applied.now)) (meaning.beginning (shape_in whole.now))) (meaning.head_fault (scope_in scope.now) count (shape_in applied.now))) (head_formula (scope_in scope.now) (shape_in applied.now)) result }
 {
     match applied {
         Shape::Named(x) => match scope.looked_up(x.text) {
@@ -121,7 +121,7 @@ pub fn called_predicate(
 
 // The function that a sign at this byte stands for.
 fn function_sign(scope: &Scope<'_>, at: u32, op: Op) -> Result<u16, SyntaxFault>
-    ensures { Means (λ (f : ℕ). Some f) (meaning.use_fault at 2 (names.function_sign_needs (scope_in scope.now) (sign op))) (names.function_named (declarations scope.now.sig.now) (names.sign_text (sign op))) result }
+    ensures { Yields (λ (f : ℕ). Some f) (meaning.use_fault at 2 (names.function_sign_needs (scope_in scope.now) (sign op))) (names.function_named (declarations scope.now.sig.now) (names.sign_text (sign op))) result }
 {
     match scope.sig.function_named(sign_text(op)) {
         None => Err(SyntaxFault::Unknown { at }),
@@ -137,7 +137,7 @@ pub fn infix_function(
     at: u32,
     op: Op,
 ) -> Result<u16, SyntaxFault>
-    ensures is { Means (λ (f : ℕ). Some f) (option_or (meaning.misfit meaning.TermSort (Some (meaning.sign_sort (sign op))) (meaning.beginning (shape_in whole.now))) (meaning.use_fault at 2 (names.sign_needs (scope_in scope.now) (sign op)))) (names.function_named (declarations scope.now.sig.now) (names.sign_text (sign op))) result }
+    ensures is { Yields (λ (f : ℕ). Some f) (option_or (meaning.misfit meaning.TermSort (Some (meaning.sign_sort (sign op))) (meaning.beginning (shape_in whole.now))) (meaning.use_fault at 2 (names.sign_needs (scope_in scope.now) (sign op)))) (names.function_named (declarations scope.now.sig.now) (names.sign_text (sign op))) result }
     ensures operands { OnOk result (meaning.operand_sort (sign op) ≡ meaning.TermSort) }
 {
     match op {
@@ -153,7 +153,7 @@ pub fn infix_function(
 
 /// The predicate that a sign at this byte stands for.
 pub fn predicate_sign(scope: &Scope<'_>, at: u32, op: Op) -> Result<u16, SyntaxFault>
-    ensures { Means (λ (p : ℕ). Some p) (meaning.use_fault at 2 (names.predicate_sign_needs (scope_in scope.now) (sign op))) (names.predicate_named (declarations scope.now.sig.now) (names.sign_text (sign op))) result }
+    ensures { Yields (λ (p : ℕ). Some p) (meaning.use_fault at 2 (names.predicate_sign_needs (scope_in scope.now) (sign op))) (names.predicate_named (declarations scope.now.sig.now) (names.sign_text (sign op))) result }
 {
     match scope.sig.predicate_named(sign_text(op)) {
         None => Err(SyntaxFault::Unknown { at }),
@@ -164,7 +164,7 @@ pub fn predicate_sign(scope: &Scope<'_>, at: u32, op: Op) -> Result<u16, SyntaxF
 // A function without arguments, which stands at this byte.
 fn constant(alloc: Global, scope: &Scope<'_>, at: u32, f: u16) -> Result<Term, SyntaxFault>
     requires { f < length (declarations scope.now.sig.now).functions }
-    ensures { Means term (meaning.use_fault at 0 (Some (names.function_needs (declarations scope.now.sig.now) f))) (app f none) result }
+    ensures { Yields term (meaning.use_fault at 0 (Some (names.function_needs (declarations scope.now.sig.now) f))) (app f none) result }
 {
     let f = counted(at, 0, function_needs(scope.sig, f), f)?;
     Ok(Term::App(f, Items::new(alloc)))
@@ -178,7 +178,7 @@ pub fn named_term(
     name: &Word<'_>,
 ) -> Result<Term, SyntaxFault>
     requires { HasRoom scope.now }
-    ensures { Means term (option_or (meaning.misfit meaning.TermSort (option_map meaning.thing_sort (names.looked_up (scope_in scope.now) name.now.text.now)) (meaning.beginning (shape_in whole.now))) (meaning.use_fault name.now.at 0 (names.name_needs (scope_in scope.now) name.now.text.now))) (trees.thing_term (names.looked_up (scope_in scope.now) name.now.text.now)) result }
+    ensures { Yields term (option_or (meaning.misfit meaning.TermSort (option_map meaning.thing_sort (names.looked_up (scope_in scope.now) name.now.text.now)) (meaning.beginning (shape_in whole.now))) (meaning.use_fault name.now.at 0 (names.name_needs (scope_in scope.now) name.now.text.now))) (trees.thing_term (names.looked_up (scope_in scope.now) name.now.text.now)) result }
 {
     match scope.looked_up(name.text) {
         None => Err(SyntaxFault::Unknown { at: name.at }),
@@ -194,7 +194,7 @@ pub fn named_term(
 
 /// The term that a number means.
 pub fn number_term(alloc: Global, scope: &Scope<'_>, number: &Word<'_>) -> Result<Term, SyntaxFault>
-    ensures { Means term (meaning.use_fault number.now.at 0 (names.number_needs (scope_in scope.now) number.now.text.now)) (trees.number_term (scope_in scope.now) number.now.text.now) result }
+    ensures { Yields term (meaning.use_fault number.now.at 0 (names.number_needs (scope_in scope.now) number.now.text.now)) (trees.number_term (scope_in scope.now) number.now.text.now) result }
 {
     if number.text == "0" {
         return Ok(Term::Zero);

@@ -1,5 +1,5 @@
 // The formula that a shape means.
-ghost use Rattle.std.specs.Prelude.{◌≡◌, ◌+◌, ◌^◌, ◌<◌, ◌≤◌, true, List, length, drop, take, IfOk, OnOk, if◌then◌else◌};
+ghost use Rattle.std.specs.Prelude.{◌≡◌, ◌+◌, ◌^◌, ◌<◌, ◌≤◌, true, length, drop, take, IfOk, OnOk, if◌then◌else◌};
 ghost use Rattle.std.specs.Option.{option_or};
 ghost use Rattle.pg_logic.specs.Tree.{eq, falsum};
 ghost use Rattle.pg_grammar.specs.Shapes as grammar;
@@ -9,7 +9,7 @@ ghost use Rattle.pg_meaning.specs.Meaning as trees;
 ghost use Rattle.pg_terms.specs.View.{formula as formula_in};
 ghost use Rattle.pg_shape.specs.View.{shape as shape_in, op as sign, quantifier};
 ghost use Rattle.pg_syntax.specs.View.{scope as scope_in, scope_of, HasRoom};
-ghost use Rattle.pg_syntax.specs.Steps.{Means, fault_from, joined, bound_names, nodes, IsReadable};
+ghost use Rattle.pg_syntax.specs.Steps.{Yields, fault_from, joined, bound_names, nodes, IsReadable};
 
 use crate::application::{called_predicate, predicate_sign};
 use crate::binders::push_names;
@@ -105,7 +105,7 @@ fn predicate(
     requires readable { IsReadable (shape_in shape.now) }
     requires applies { grammar.can_apply (shape_in shape.now) ≡ true }
     requires small { nodes (shape_in shape.now) < 2 ^ 16 }
-    ensures { Means formula_in (fault_from (scope_in scope.now) meaning.FormulaSort (meaning.beginning (shape_in whole.now)) (shape_in shape.now)) (trees.formula_of (scope_in scope.now) (shape_in shape.now)) result }
+    ensures { Yields formula_in (fault_from (scope_in scope.now) meaning.FormulaSort (meaning.beginning (shape_in whole.now)) (shape_in shape.now)) (trees.formula_of (scope_in scope.now) (shape_in shape.now)) result }
 {
     let id = called_predicate(scope, whole, shape, 0)?;
     let ts = arguments(alloc, scope, shape)?;
@@ -123,7 +123,7 @@ fn equation(
     requires left { IsReadable (shape_in left.now) }
     requires right { IsReadable (shape_in right.now) }
     requires small { nodes (shape_in left.now) + nodes (shape_in right.now) < 2 ^ 16 }
-    ensures { Means formula_in (option_or (meaning.first_fault (scope_in scope.now) meaning.TermSort (shape_in left.now)) (meaning.first_fault (scope_in scope.now) meaning.TermSort (shape_in right.now))) (eq (trees.term_of (scope_in scope.now) (shape_in left.now)) (trees.term_of (scope_in scope.now) (shape_in right.now))) result }
+    ensures { Yields formula_in (option_or (meaning.first_fault (scope_in scope.now) meaning.TermSort (shape_in left.now)) (meaning.first_fault (scope_in scope.now) meaning.TermSort (shape_in right.now))) (eq (trees.term_of (scope_in scope.now) (shape_in left.now)) (trees.term_of (scope_in scope.now) (shape_in right.now))) result }
 {
     let s = term(alloc, scope, left, left)?;
     let t = term(alloc, scope, right, right)?;
@@ -143,7 +143,7 @@ fn comparison(
     requires left { IsReadable (shape_in left.now) }
     requires right { IsReadable (shape_in right.now) }
     requires small { nodes (shape_in left.now) + nodes (shape_in right.now) < 2 ^ 16 }
-    ensures { Means formula_in (option_or (meaning.use_fault at 2 (names_in.predicate_sign_needs (scope_in scope.now) (sign op))) (option_or (meaning.first_fault (scope_in scope.now) meaning.TermSort (shape_in left.now)) (meaning.first_fault (scope_in scope.now) meaning.TermSort (shape_in right.now)))) (trees.sign_formula (scope_in scope.now) (sign op) (trees.term_of (scope_in scope.now) (shape_in left.now)) (trees.term_of (scope_in scope.now) (shape_in right.now))) result }
+    ensures { Yields formula_in (option_or (meaning.use_fault at 2 (names_in.predicate_sign_needs (scope_in scope.now) (sign op))) (option_or (meaning.first_fault (scope_in scope.now) meaning.TermSort (shape_in left.now)) (meaning.first_fault (scope_in scope.now) meaning.TermSort (shape_in right.now)))) (trees.sign_formula (scope_in scope.now) (sign op) (trees.term_of (scope_in scope.now) (shape_in left.now)) (trees.term_of (scope_in scope.now) (shape_in right.now))) result }
 {
     let id = predicate_sign(scope, at, op)?;
     let s = term(alloc, scope, left, left)?;
@@ -167,7 +167,7 @@ fn relation(
     requires left { IsReadable (shape_in left.now) }
     requires right { IsReadable (shape_in right.now) }
     requires small { nodes (shape_in left.now) + nodes (shape_in right.now) < 2 ^ 16 }
-    ensures { Means formula_in (fault_from (scope_in scope.now) meaning.FormulaSort (meaning.beginning (shape_in whole.now)) (grammar.Binary at (sign op) (shape_in left.now) (shape_in right.now))) (trees.formula_of (scope_in scope.now) (grammar.Binary at (sign op) (shape_in left.now) (shape_in right.now))) result }
+    ensures { Yields formula_in (fault_from (scope_in scope.now) meaning.FormulaSort (meaning.beginning (shape_in whole.now)) (grammar.Binary at (sign op) (shape_in left.now) (shape_in right.now))) (trees.formula_of (scope_in scope.now) (grammar.Binary at (sign op) (shape_in left.now) (shape_in right.now))) result }
 {
     match op {
         Op::Equal => equation(alloc, scope, left, right),
@@ -198,7 +198,7 @@ pub fn formula(
     requires vars { length names.now.vars.items < 2 ^ 32 }
     requires readable { IsReadable (shape_in shape.now) }
     requires small { length binders.old + nodes (shape_in shape.now) < 2 ^ 16 }
-    ensures is { Means formula_in (fault_from (scope_of names.now sig.now binders.old) meaning.FormulaSort (meaning.beginning (shape_in whole.now)) (shape_in shape.now)) (trees.formula_of (scope_of names.now sig.now binders.old) (shape_in shape.now)) result }
+    ensures is { Yields formula_in (fault_from (scope_of names.now sig.now binders.old) meaning.FormulaSort (meaning.beginning (shape_in whole.now)) (shape_in shape.now)) (trees.formula_of (scope_of names.now sig.now binders.old) (shape_in shape.now)) result }
     ensures left { OnOk result (binders.new ≡ binders.old) }
 {
     match shape {

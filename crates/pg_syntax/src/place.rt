@@ -1,10 +1,8 @@
-// Where a shape begins, and the fault at that place.
+// Where a shape begins.
 ghost use Rattle.std.specs.Prelude.{◌≡◌};
 ghost use Rattle.pg_meaning.specs.Faults as meaning;
 ghost use Rattle.pg_shape.specs.View.{shape as shape_in};
 
-use crate::fault::SyntaxFault;
-use pg_base::Wanted;
 use pg_shape::Shape;
 
 /// Where the shape's first token stands.

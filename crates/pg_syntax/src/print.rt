@@ -1,10 +1,9 @@
 //! Terms and formulas as texts.
-ghost use Rattle.std.specs.Prelude.{◌≡◌, ◌<◌, ◌++◌, [], reverse, IfOk, OnOk, string_bytes};
+ghost use Rattle.std.specs.Prelude.{◌≡◌, ◌<◌, ◌++◌, [], IfOk, OnOk, string_bytes};
 ghost use Rattle.pg_arith.specs.View.{declarations};
 ghost use Rattle.pg_terms.specs.View.{term, formula};
 ghost use Rattle.pg_terms.specs.View as view;
-ghost use Rattle.pg_grammar.specs.Shapes.{Quant};
-ghost use Rattle.pg_grammar.specs.Printing.{Bind, shape_of, joined, node_shape, Arrow};
+ghost use Rattle.pg_grammar.specs.Printing.{shape_of, joined};
 ghost use Rattle.pg_shape.specs.View.{op, quantifier};
 ghost use Rattle.pg_spelling.specs.Fresh.{fresh};
 ghost use Rattle.pg_logic.specs.Tree.{imp};
@@ -19,10 +18,10 @@ ghost use Rattle.pg_syntax.specs.ReadBack.{FormulaComesBack, TermComesBack};
 use crate::fresh::Taken;
 use crate::names::Names;
 use crate::written::{
-    ATOM, Context, NEGATION, Place, call_weight, write_call, write_joined, write_sign, write_term,
+    Context, Place, call_weight, write_call, write_joined, write_sign, write_term,
 };
 use pg_arith::Signature;
-use pg_shape::{Op, Quantifier};
+use pg_shape::{ATOM, NEGATION, Op, Quantifier};
 use pg_terms::{Formula, Name, Term};
 use sqlite_items::Items;
 use std::alloc::{AllocError, Global};

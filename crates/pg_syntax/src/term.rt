@@ -1,5 +1,5 @@
 // The term that a shape means.
-ghost use Rattle.std.specs.Prelude.{◌≡◌, ◌^◌, ◌<◌, ℕ, true, IfOk};
+ghost use Rattle.std.specs.Prelude.{◌≡◌, ◌^◌, ◌<◌, true, IfOk};
 ghost use Rattle.pg_logic.specs.Tree.{app};
 ghost use Rattle.pg_grammar.specs.Shapes.{can_apply};
 ghost use Rattle.pg_meaning.specs.Faults as meaning;
@@ -7,7 +7,7 @@ ghost use Rattle.pg_meaning.specs.Meaning as trees;
 ghost use Rattle.pg_terms.specs.View.{term as term_in, args};
 ghost use Rattle.pg_shape.specs.View.{shape as shape_in};
 ghost use Rattle.pg_syntax.specs.View.{scope as scope_in, HasRoom};
-ghost use Rattle.pg_syntax.specs.Steps.{Means, fault_from, arguments, nodes, IsReadable};
+ghost use Rattle.pg_syntax.specs.Steps.{Yields, fault_from, arguments, nodes, IsReadable};
 
 use crate::application::{called_function, infix_function, named_term, number_term};
 use crate::fault::SyntaxFault;
@@ -59,7 +59,7 @@ pub fn term(
     requires room { HasRoom scope.now }
     requires readable { IsReadable (shape_in shape.now) }
     requires small { nodes (shape_in shape.now) < 2 ^ 16 }
-    ensures { Means term_in (fault_from (scope_in scope.now) meaning.TermSort (meaning.beginning (shape_in whole.now)) (shape_in shape.now)) (trees.term_of (scope_in scope.now) (shape_in shape.now)) result }
+    ensures { Yields term_in (fault_from (scope_in scope.now) meaning.TermSort (meaning.beginning (shape_in whole.now)) (shape_in shape.now)) (trees.term_of (scope_in scope.now) (shape_in shape.now)) result }
 {
     match shape {
         Shape::Named(x) => named_term(alloc, scope, whole, x),
@@ -100,7 +100,7 @@ pub fn arguments(
     requires readable { IsReadable (shape_in applied.now) }
     requires applies { can_apply (shape_in applied.now) ≡ true }
     requires small { nodes (shape_in applied.now) < 2 ^ 16 }
-    ensures { Means args (meaning.parts_fault (scope_in scope.now) (shape_in applied.now)) (arguments (scope_in scope.now) (shape_in applied.now)) result }
+    ensures { Yields args (meaning.parts_fault (scope_in scope.now) (shape_in applied.now)) (arguments (scope_in scope.now) (shape_in applied.now)) result }
 {
     match applied {
         Shape::Next(_, s) => {

@@ -1,17 +1,16 @@
 // Terms as texts.
 ghost use Rattle.std.specs.Prelude.{◌≡◌, ◌<◌, ◌++◌, OnOk, option_map, string_bytes, codes};
-ghost use Rattle.pg_arith.specs.View.{declarations};
 ghost use Rattle.pg_terms.specs.View.{term, args};
-ghost use Rattle.pg_grammar.specs.Printing.{sign_of, shape_of, joined, applied};
+ghost use Rattle.pg_grammar.specs.Printing.{sign_of, shape_of, joined};
 ghost use Rattle.pg_shape.specs.View.{op};
 ghost use Rattle.pg_spelling.specs.Named.{variable, name_at, function_names, predicate_names, sign_named, at_arguments, named, named_all};
 ghost use Rattle.pg_spelling.specs.Written.{op_text, written, printed};
-ghost use Rattle.pg_syntax.specs.Places.{scope, scope_under, weight, operand_text};
+ghost use Rattle.pg_syntax.specs.Places.{scope, weight, operand_text};
 ghost use Rattle.pg_syntax.specs.Texts.{arguments_text};
 
 use crate::names::Names;
 use pg_arith::Signature;
-use pg_shape::Op;
+use pg_shape::{APPLICATION, ATOM, Op};
 use pg_terms::{Name, Term};
 use std::alloc::AllocError;
 
@@ -28,13 +27,6 @@ pub struct Place<'a> {
     pub context: Context<'a>,
     pub binders: &'a [Name],
 }
-
-/// How strong an atom is, an application, and `¬`.
-pub const ATOM: u8 = 101;
-
-pub const APPLICATION: u8 = 100;
-
-pub const NEGATION: u8 = 40;
 
 /// The spelling of a sign.
 pub fn op_text(sign: Op) -> &'static str

@@ -1,8 +1,8 @@
 -- What becomes of flags as they are set, taken away and kept.
-use Rattle.std.proofs.Common.{◌≡◌, ℕ, ◌+◌, ◌<◌, ◌≤◌, Bool, true, false, cond, ◌||◌, eqb, List, ◌++◌, length, get_or, set, take, drop, refl, sym, ap, ◌∙◌, inl, inr, arith}
+use Rattle.std.proofs.Common.{◌≡◌, ℕ, ◌+◌, ◌<◌, ◌≤◌, Bool, true, false, cond, ◌||◌, eqb, List, length, get_or, set, take, refl, sym, ap, ◌∙◌, inl, inr}
 use Rattle.std.specs.List.{list_any}
 use Rattle.std.proofs.lemmas.Bool.{cases_eq, cases_lt, eq-eqb, ne_eqb, false≢true}
-use Rattle.std.proofs.lemmas.List.{get_or-set_same, get_or-set_other, get_or_past, drop_all, append-nil, take_all}
+use Rattle.std.proofs.lemmas.List.{get_or-set_same, get_or-set_other, get_or_past}
 use Rattle.std.proofs.lemmas.List.Folds.{list_any_more, list_any_at}
 use Rattle.pg_worlds.specs.Flags.{flag}
 
@@ -47,8 +47,3 @@ module _ {X : Type 0} (N : X → ℕ) where
       ∙ sym (or_more (flag start k) (named (take i xs) k) (eqb n k))
       ∙ ap (λ m. flag start k || (named (take i xs) k || eqb m k)) (same ∙ ap N e)
       ∙ ap (λ b. flag start k || b) (sym (list_any_more (λ y. eqb (N y) k) xs i x h))
-
--- a slice that is as long as the whole leaves the whole
-pub written_back : (n : ℕ) (new old : List Bool) → length new ≡ length old → length old ≡ n → take n (new ++ drop (length new) old) ≡ new
-written_back n new old same len =
-    ap (λ rest. take n (new ++ rest)) (drop_all (length new) old (omega arith)) ∙ ap (take n) (append-nil new) ∙ take_all n new (omega arith)

@@ -1,5 +1,5 @@
 // The levels in their order, and which of them are open.
-ghost use Rattle.std.specs.Prelude.{◌≡◌, ◌↔◌, ◌<◌, ◌≤◌, ◌⊎◌, ℕ, length, vec_len, IfOk, IsTrue, MatchOption, IfSome, false};
+ghost use Rattle.std.specs.Prelude.{◌≡◌, ◌↔◌, ◌<◌, ◌⊎◌, ℕ, length, IfOk, IsTrue, MatchOption, IfSome, false};
 ghost use Rattle.pg_worlds.specs.Flags.{flag};
 
 use crate::flags::{has_any_flag, has_flag};

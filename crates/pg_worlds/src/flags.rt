@@ -1,5 +1,5 @@
 // Sets of numbers as flags: flag k tells whether k is in the set, and past the end there are none.
-ghost use Rattle.std.specs.Prelude.{◌≡◌, ◌<◌, ◌≤◌, ℕ, ◌||◌, ◌&&◌, not, true, false, length, vec_len, slice_set, OnOk, OnErr, ◌==◌, find};
+ghost use Rattle.std.specs.Prelude.{◌≡◌, ◌<◌, ◌≤◌, ℕ, ◌||◌, ◌&&◌, not, true, false, length, vec_len, OnOk, OnErr, ◌==◌, find};
 ghost use Rattle.std.specs.List.{list_any, list_all};
 ghost use Rattle.pg_worlds.specs.Flags.{flag};
 

@@ -1,6 +1,5 @@
 // The order of worlds.
-ghost use Rattle.std.specs.Prelude.{◌≡◌, ◌≤◌, ◌<◌, ℕ, ◌||◌, ◌&&◌, not, true, false, length, map, vec_len, slice_set, OnOk, IfOk, IfErr, MatchOption, IsTrue, ◌==◌, find, Some, drop, slice_index};
-ghost use Rattle.std.specs.List.{list_any};
+ghost use Rattle.std.specs.Prelude.{◌≡◌, ◌<◌, ℕ, ◌||◌, ◌&&◌, not, true, false, length, map, OnOk, IfOk, IfErr, MatchOption, ◌==◌, find, Some, drop, slice_index};
 ghost use Rattle.pg_worlds.specs.declared.graph.WorldFault.TheVariants.{OutOfMemory};
 ghost use Rattle.pg_worlds.specs.Flags.{flag, has};
 ghost use Rattle.pg_worlds.specs.Worlds.{could_stand, needs_of, world_count, worlds_of, IsFirstBelow, IsFirstEachTime, IsGraph, IsLoopFrom, IsWorldOrder, WorldOrderLaw};

@@ -1,5 +1,5 @@
 // Which moves and theorems a player has.
-ghost use Rattle.std.specs.Prelude.{◌≡◌, ◌<◌, ◌≤◌, ◌&&◌, ◌||◌, not, true, ℕ, List, Bool, length, vec_len, map, slice_set, IfOk, OnOk, OnErr, option_map};
+ghost use Rattle.std.specs.Prelude.{◌≡◌, ◌<◌, ◌&&◌, true, ℕ, List, Bool, length, slice_set, IfOk, OnOk, OnErr, option_map};
 ghost use Rattle.pg_worlds.specs.Flags.{flag, has};
 ghost use Rattle.pg_worlds.specs.Moves.{place_of};
 

@@ -1,5 +1,5 @@
 // Words, orders, open levels and inventories of small games.
-ghost use Rattle.std.specs.Prelude.{◌≡◌, ◌<◌, ◌≤◌, ◌++◌, ℕ, length, map, vec_len, replicate, IfOk, IfSome, OnOk, IsTrue, slice_index, slice_index_or, flat_map, take, nat_lt};
+ghost use Rattle.std.specs.Prelude.{◌≡◌, ◌<◌, ◌++◌, map, replicate, IfOk, OnOk, IsTrue, slice_index, flat_map, nat_lt};
 ghost use Rattle.std.specs.List.{list_all};
 ghost use Rattle.pg_worlds.specs.Worlds.{worlds_of, IsGraph};
 ghost use Rattle.pg_worlds.specs.declared.course.LevelItems.{LevelItems};

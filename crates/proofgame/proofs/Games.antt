@@ -1,5 +1,5 @@
 -- Reading a game gives the target and the sample that are spelled so, and no others.
-use Rattle.std.proofs.Common.{◌≡◌, ◌≤◌, ℕ, Bool, true, false, List, [], ◌∷◌, ◌++◌, Option, Some, None, sym as flip, ◌∙◌, ap, refl, subst, option_map, option_and_then, map, length, MatchOption, Result, Ok, Err, IfOk}
+use Rattle.std.proofs.Common.{◌≡◌, ◌≤◌, ℕ, true, false, List, [], ◌∷◌, ◌++◌, Option, Some, None, sym as flip, ◌∙◌, ap, refl, subst, option_map, option_and_then, map, length, MatchOption, Result, Ok, Err, IfOk}
 use Rattle.pg_logic.specs.Tree.{Tm, Fm, eq}
 use Rattle.pg_logic.specs.Kernel.{is_reflexive}
 use Rattle.pg_terms.specs.View.{formula}
@@ -7,12 +7,12 @@ use Rattle.std.specs.Str.{is_utf8, IsUtf8}
 use Rattle.std.proofs.lemmas.Str.{IsUtf8-from_is_utf8}
 use Rattle.pg_base.specs.Tokens.{lexed}
 use Rattle.proofgame.specs.declared.symbol.Symbol.{Symbol}
-use Rattle.proofgame.specs.declared.symbol.Symbol.TheVariants.{World, WorldName, Level, One, Statement, Colon, Zero, Succ, Open, Close, Equal, Assign, By, Rfl, Sorry, NewTactic}
+use Rattle.proofgame.specs.declared.symbol.Symbol.TheVariants.{World, WorldName, Level, One, Statement, Colon, Equal, Assign, By, Rfl, Sorry, NewTactic}
 use Rattle.proofgame.specs.declared.game.Game.{Game}
 use Rattle.proofgame.specs.declared.game.Sample.{Sample}
 use Rattle.proofgame.specs.declared.game.Sample.TheVariants as sample
 use Rattle.proofgame.specs.Symbols.{symbol_of}
-use Rattle.proofgame.specs.Game.{Shape, spelled, depth, meaning, sample_symbol, ending, game_symbols, IsGame, IsGameText, Finds}
+use Rattle.proofgame.specs.Game.{Shape, spelled, depth, meaning, ending, game_symbols, IsGame, IsGameText, Finds}
 use Rattle.proofgame.specs.Reading.{Found, numeral_at, after_heads, after_equal, sample_of, Parts, right_at, left_at, parts_of, game_at}
 use Rattle.proofgame.proofs.Shapes.{IsRead, IsSound, numeral_at-spelled, numeral_at-sound}
 

@@ -1,10 +1,10 @@
 -- Reading gives the trees of the shapes that are spelled so, and no others.
 use Rattle.std.proofs.Common.{◌≡◌, ℕ, zero, suc, ◌-◌, ◌<◌, ◌≤◌, List, [], ◌∷◌, ◌++◌, Option, Some, None, sym as flip, ◌∙◌, ap, refl, arith, append_assoc, option_map}
-use Rattle.pg_logic.specs.Tree.{Tm, nought, succ}
+use Rattle.pg_logic.specs.Tree.{Tm, succ}
 use Rattle.proofgame.specs.declared.symbol.Symbol.{Symbol}
-use Rattle.proofgame.specs.declared.symbol.Symbol.TheVariants.{World, Level, Statement, NewTactic, WorldName, One, Zero, Succ, Open, Close, Colon, Equal, Assign, By, Rfl, Sorry, Other}
+use Rattle.proofgame.specs.declared.symbol.Symbol.TheVariants.{Zero, Succ, Open, Close}
 use Rattle.proofgame.specs.Game.{Shape, Plain, Successor, SuccessorOf, Grouped, spelled, depth, meaning}
-use Rattle.proofgame.specs.Reading.{Found, after_close, closed, successor_of, argument, numeral_with, inside_at, numeral_at}
+use Rattle.proofgame.specs.Reading.{Found, after_close, closed, successor_of, numeral_with, inside_at, numeral_at}
 
 pub inside_at-some : (budget : ℕ) (symbols : List Symbol) → 0 < budget → inside_at budget symbols ≡ closed (numeral_at (budget - 1) symbols)
 unfolding inside_at

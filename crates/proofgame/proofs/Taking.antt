@@ -1,15 +1,9 @@
 -- Taking the front of a source, piece by piece.
-use Rattle.std.proofs.Common.{◌≡◌, ◌≤◌, ℕ, List, [], ◌++◌, length, take, drop, ◌+◌, Option, Some, None, sym as flip, ◌∙◌, ap, arith, append_assoc}
+use Rattle.std.proofs.Common.{◌≡◌, ◌≤◌, ℕ, List, ◌++◌, length, take, drop, ◌+◌, Option, Some, None, sym as flip, ◌∙◌, ap, arith, append_assoc}
 use Rattle.std.proofs.lemmas.List.{take_at, take_all, append-nil, take-append-drop, drop-take, take-take}
 use Rattle.std.specs.Io.KnownBytes.{Consumes, Appends}
 use Rattle.pg_base.specs.Outside.{EndsAt}
 use Rattle.proofgame.specs.Script.{TookFront}
-
-pub consumes-more : (old mid new : Option (List ℕ)) (front piece : List ℕ) → Consumes old mid front → Consumes mid new piece → Consumes old new (front ++ piece)
-consumes-more None mid new front piece h k = tt
-consumes-more (Some xs) None new front piece h k = absurd h
-consumes-more (Some xs) (Some ys) None front piece h k = absurd k
-consumes-more (Some xs) (Some ys) (Some zs) front piece h k = h ∙ ap (λ r. front ++ r) k ∙ flip (append_assoc front piece zs)
 
 -- no byte was left where the last read gave none
 pub took-all : (old now : Option (List ℕ)) (front : List ℕ) (n : ℕ) → Consumes old now front → EndsAt now n → n ≡ 0 → length front ≤ 16385 → TookFront old front

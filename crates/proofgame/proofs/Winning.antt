@@ -4,21 +4,20 @@ use Rattle.std.proofs.lemmas.List.{append_cancel_left}
 use Rattle.std.proofs.lemmas.Bool.{false≢true}
 use Rattle.std.specs.Borrow.{Bor}
 use Rattle.std.specs.Io.KnownBytes.{Appends}
-use Rattle.pg_base.specs.Outside.{GivesFile, Told, file_named}
+use Rattle.pg_base.specs.Outside.{GivesFile, Told}
 use Rattle.pg_logic.specs.Tree.{Fm}
-use Rattle.pg_logic.specs.Kernel.{is_reflexive}
 use Rattle.pg_tactic.specs.declared.first.FirstScript.{FirstScript}
 use Rattle.pg_tactic.specs.declared.first.FirstScript.TheVariants.{Empty, Rfl}
 use Rattle.proofgame.specs.declared.ending.Ending.{Ending}
 use Rattle.proofgame.specs.declared.ending.Ending.TheVariants.{Words, File, OtherGame, Door, Memory, Won, Open, SidesDiffer, OtherScript}
 use Rattle.proofgame.specs.declared.game.Sample.{Sample}
 use Rattle.proofgame.specs.Ending.{text_of, status_of}
-use Rattle.proofgame.specs.Game.{IsGame, IsGameText}
+use Rattle.proofgame.specs.Game.{IsGameText}
 use Rattle.proofgame.specs.Reading.{Parts}
-use Rattle.proofgame.specs.Print.{Printed, WrotePart}
+use Rattle.proofgame.specs.Print.{Printed}
 use Rattle.proofgame.specs.Script.{script_of, DoorGave, TookFront}
 use Rattle.proofgame.specs.Words.{game_name}
-use Rattle.proofgame.specs.Run.{IsWon, Ends, Plays, PlaysAt, EndsGame, EndsText, EndsFile, EndsRun, Wins, PrintsWon, TellsScript, PrintsWonUnless}
+use Rattle.proofgame.specs.Run.{IsWon, Ends, Plays, EndsRun, Wins, PrintsWon, TellsScript, PrintsWonUnless}
 use Rattle.proofgame.proofs.Games.{game_at-game}
 
 -- ---- only where
@@ -96,10 +95,6 @@ one-script : (coming : Option (List Told)) (s t : List ℕ) → TellsScript comi
 one-script None s t told g h = absurd told
 one-script (Some []) s t told g h = g ∙ flip h
 one-script (Some (conn ∷ rest)) s t told g h = one-front conn.left s t told g h
-
--- two runs with one text, of which one wins
-abbrev SameInput : Fm → List ℕ → Fm → List ℕ → Type 0
-SameInput a s b t = (a ≡ b) × (s ≡ t)
 
 -- an ending by `rfl` on a target that is won is `won`
 wins-ends : (target : Fm) (ending : Ending) → IsWon target → Ends target (Some Rfl) ending → ending ≡ Won

@@ -1,12 +1,10 @@
 -- What a run asks of the door and the files.
 use Rattle.std.specs.Prelude.{◌≡◌, ◌⊎◌, ℕ, List, [], ◌∷◌, ◌++◌, Option, Some, None, Result, Ok, Err, ⊤}
-use Rattle.std.specs.Borrow.{Bor}
 use Rattle.pg_base.specs.Outside.{Rose, Told}
 use Rattle.pg_base.specs.declared.outside.OutFault.{OutFault}
 use Rattle.pg_base.specs.declared.outside.OutFault.TheVariants.{Failed, OutOfMemory}
 use Rattle.pg_base.specs.declared.outside.Place.{Place}
 use Rattle.pg_base.specs.declared.outside.Place.TheVariants.{Standard}
-use Rattle.proofgame.specs.Words.{game_name}
 
 -- one thing more was asked for
 abbrev pub OneMore : {X : Type 0} → List X → List X → X → Type 0

@@ -9,7 +9,7 @@ use Rattle.pg_terms.specs.View.{formula}
 use Rattle.pg_tactic.specs.First.{IsAccepted}
 use Rattle.pg_tactic.specs.declared.first.FirstScript.{FirstScript}
 use Rattle.pg_tactic.specs.declared.first.FirstScript.TheVariants.{Empty, Rfl}
-use Rattle.pg_base.specs.Outside.{GivesFile, Told}
+use Rattle.pg_base.specs.Outside.{GivesFile}
 use Rattle.pg_base.specs.declared.outside.Place.{Place}
 use Rattle.pg_base.specs.declared.outside.Place.TheVariants.{Standard}
 use Rattle.proofgame.specs.Asked.{Connections, OneMore, FinishesFirst, LeavesLists}
@@ -17,7 +17,7 @@ use Rattle.proofgame.specs.Game.{IsGameText}
 use Rattle.proofgame.specs.Print.{Printed}
 use Rattle.proofgame.specs.Script.{script_of, DoorGave}
 use Rattle.proofgame.specs.Words.{game_name}
-use Rattle.proofgame.specs.Ending.{line, text_of, status_of}
+use Rattle.proofgame.specs.Ending.{text_of, status_of}
 use Rattle.proofgame.specs.declared.game.Sample.{Sample}
 use Rattle.proofgame.specs.declared.ending.Ending.{Ending}
 use Rattle.proofgame.specs.declared.ending.Ending.TheVariants.{Words, File, OtherGame, Door, Memory, Won, Open, SidesDiffer, OtherScript}

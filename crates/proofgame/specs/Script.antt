@@ -2,7 +2,7 @@
 use Rattle.std.specs.Prelude.{◌≡◌, ℕ, Bool, true, false, ◌&&◌, List, [], ◌∷◌, length, take, Option, Some, None, if◌then◌else◌, nat_lt, codes, ⊤}
 use Rattle.std.specs.Str.{is_utf8, bytes_eq}
 use Rattle.pg_base.specs.Outside.{Told}
-use Rattle.pg_base.specs.Tokens.{lexed, Lexed, Word}
+use Rattle.pg_base.specs.Tokens.{lexed, Word}
 use Rattle.pg_base.specs.declared.token.LexFault.{LexFault}
 use Rattle.pg_base.specs.declared.token.TokenKind.{TokenKind}
 use Rattle.pg_base.specs.declared.token.TokenKind.TheVariants as kinds

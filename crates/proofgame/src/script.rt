@@ -1,7 +1,7 @@
 // The script of a run, from the door's first connection.
 ghost use Rattle.std.specs.Prelude.{◌≡◌, IfOk, Err, map};
 ghost use Rattle.pg_base.specs.declared.outside.OutFault.TheVariants.{Failed};
-ghost use Rattle.pg_base.specs.Outside.{HasCause, told};
+ghost use Rattle.pg_base.specs.Outside.{HasCause};
 ghost use Rattle.pg_base.specs.Tokens.{word};
 ghost use Rattle.proofgame.specs.Script.{is_rfl, script_of, script_of_words, TookFront, DoorGave};
 ghost use Rattle.proofgame.specs.Asked.{StartsDoor, DoorLists, DoorFailed};

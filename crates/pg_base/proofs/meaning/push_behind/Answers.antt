@@ -1,5 +1,3 @@
-use Rattle.std.proofs.Common.{sym, string_bytes}
-use Rattle.std.specs.Str.{chars}
 use Rattle.pg_base.proofs.Decoding.{behind-line, behind-other}
 use Rattle.pg_base.proofs.meaning.push_behind.Goals as goal
 

@@ -1,4 +1,4 @@
-use Rattle.std.proofs.Common.{rules, arith, ap, ◌≡◌, ◌∙◌, if◌then◌else◌}
+use Rattle.std.proofs.Common.{rules, ap, ◌∙◌, if◌then◌else◌}
 use Rattle.pg_meaning.specs.Faults as meaning
 use Rattle.pg_terms.specs.View.{formula as formula_in}
 use Rattle.pg_shape.specs.View.{shape as shape_in, op as sign, quantifier, binders as binders_in}

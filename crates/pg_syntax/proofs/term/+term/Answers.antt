@@ -1,4 +1,4 @@
-use Rattle.std.proofs.Common.{arith, ap, ◌≡◌, ◌∙◌}
+use Rattle.std.proofs.Common.{ap, ◌∙◌}
 use Rattle.pg_shape.specs.View.{shape as shape_in, op as sign}
 use Rattle.pg_meaning.specs.Faults as meaning
 use Rattle.pg_syntax.specs.View.{scope as scope_in}

@@ -1,4 +1,4 @@
-use Rattle.std.proofs.Common.{◌≡◌, ◌<◌, ◌∙◌, ap, arith, sym}
+use Rattle.std.proofs.Common.{◌∙◌, ap, arith, sym}
 use Rattle.proofgame.specs.Reading.{closed}
 use Rattle.proofgame.proofs.Shapes.{inside_at-some}
 use Rattle.proofgame.proofs.game.+numeral.Goals as goal

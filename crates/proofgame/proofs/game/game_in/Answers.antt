@@ -1,9 +1,8 @@
-use Rattle.std.proofs.Common.{◌≡◌, ◌≤◌, ◌∙◌, ap, sym as flip, length, map, arith, rules, IfOk, List, ℕ}
-use Rattle.std.specs.Str.{is_utf8}
+use Rattle.std.proofs.Common.{◌∙◌, ap, sym as flip, map, List, ℕ}
 use Rattle.std.proofs.lemmas.Str.{is_utf8-from_IsUtf8}
 use Rattle.pg_base.specs.Tokens.{lexed, word}
 use Rattle.proofgame.specs.Symbols.{symbol_of}
-use Rattle.proofgame.specs.Game.{IsGame, IsGameText, Finds}
+use Rattle.proofgame.specs.Game.{IsGameText, Finds}
 use Rattle.proofgame.proofs.Games.{not-utf8, ok-map, text-found}
 use Rattle.proofgame.proofs.game.game_in.Goals as goal
 

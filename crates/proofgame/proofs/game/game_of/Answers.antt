@@ -1,4 +1,4 @@
-use Rattle.std.proofs.Common.{◌≡◌, Option, Some, None, subst}
+use Rattle.std.proofs.Common.{◌≡◌, Option, subst}
 use Rattle.proofgame.specs.declared.game.Game.{Game}
 use Rattle.proofgame.specs.Game.{IsGame, Finds}
 use Rattle.proofgame.specs.Reading.{parts_of, game_at}

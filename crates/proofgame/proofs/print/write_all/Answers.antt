@@ -1,4 +1,4 @@
-use Rattle.std.proofs.Common.{◌≡◌, ◌≤◌, arith, subst, List, ℕ, take}
+use Rattle.std.proofs.Common.{arith, subst, List, ℕ, take}
 use Rattle.std.specs.Io.KnownBytes.{Appends}
 use Rattle.proofgame.proofs.Taking.{appends-more}
 use Rattle.proofgame.proofs.print.write_all.Goals as goal

@@ -1,4 +1,4 @@
-use Rattle.std.proofs.Common.{◌≡◌, ◌⊎◌, List, ℕ, subst, sym as flip}
+use Rattle.std.proofs.Common.{◌⊎◌, List, ℕ, subst, sym as flip}
 use Rattle.pg_base.specs.Outside.{GivesFile, Rose}
 use Rattle.proofgame.proofs.Endings.{ends-text}
 use Rattle.proofgame.proofs.run.play.Goals as goal

@@ -1,4 +1,4 @@
-use Rattle.std.proofs.Common.{◌≡◌, ◌⊎◌, ◌∙◌, ℕ, List, inl, subst}
+use Rattle.std.proofs.Common.{◌⊎◌, ◌∙◌, ℕ, List, inl, subst}
 use Rattle.pg_base.specs.Outside.{Rose}
 use Rattle.proofgame.specs.Ending.{text_of, status_of}
 use Rattle.proofgame.specs.Print.{Printed}

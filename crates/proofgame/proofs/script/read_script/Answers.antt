@@ -1,4 +1,4 @@
-use Rattle.std.proofs.Common.{◌≡◌, ◌≤◌, length, arith, vec_len}
+use Rattle.std.proofs.Common.{arith}
 use Rattle.proofgame.proofs.Taking.{took-all, took-front}
 use Rattle.proofgame.proofs.script.read_script.Goals as goal
 

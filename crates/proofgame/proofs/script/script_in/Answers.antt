@@ -1,6 +1,6 @@
-use Rattle.std.proofs.Common.{◌≡◌, ◌∙◌, ap, sym as flip, rules, map, List, ℕ, ◌<◌, arith, length}
+use Rattle.std.proofs.Common.{◌∙◌, ap, sym as flip, map, List, ℕ}
 use Rattle.pg_base.specs.Tokens.{lexed, word}
-use Rattle.proofgame.specs.Script.{script_of, script_of_words, script_of_lexed}
+use Rattle.proofgame.specs.Script.{script_of, script_of_words}
 use Rattle.proofgame.proofs.Scripts.{script_of-bad, script_of-text}
 use Rattle.proofgame.proofs.script.script_in.Goals as goal
 
