@@ -3,6 +3,7 @@ pub mod Flagged
 pub mod Games
 pub mod OneOrder
 pub mod Places
+pub mod Plans
 pub mod Reached
 pub mod Rounds
 pub mod Standing

@@ -1,12 +1,17 @@
 // The levels in their order, and which of them are open.
-ghost use Rattle.std.specs.Prelude.{◌≡◌, ◌↔◌, ◌<◌, ◌⊎◌, ℕ, length, IfOk, IsTrue, MatchOption, IfSome, false};
+ghost use Rattle.std.specs.Prelude.{◌≡◌, ◌↔◌, ◌<◌, ◌⊎◌, ℕ, List, length, map, IfOk, IfErr, IsTrue, MatchOption, IfSome, IfNone, false};
 ghost use Rattle.pg_worlds.specs.Flags.{flag};
+ghost use Rattle.pg_worlds.specs.Fault.{IsOrderFault};
+ghost use Rattle.pg_worlds.specs.declared.course.LevelItems.{LevelItems};
 
 use crate::flags::{has_any_flag, has_flag};
-use crate::graph::{Graph, MOST_WORLDS, no_worlds};
+use crate::graph::{Graph, MOST_WORLDS, WorldFault, no_worlds};
 use crate::tactic_name::TacticName;
 use std::alloc::{AllocError, Global};
 use std::marker::Model;
+
+/// How many levels a game has at most: as many as there are numbers of 16 bits.
+const MOST_LEVELS: usize = 65_536;
 
 /// A level's place in the order of levels, from 0: worlds in their order, levels by number.
 #[derive(Clone, Copy, Debug, PartialEq, Eq)]
@@ -70,6 +75,30 @@ impl Course {
             order,
             items,
         }
+    }
+
+    /// The course of these worlds and levels, as `new` takes them, over the order of the graph; None exactly where
+    /// the levels are not those of the worlds in the order of levels, or more than 65,536. Where the graph has no
+    /// order, the fault is that of `Graph::order`.
+    pub fn checked(
+        alloc: Global,
+        graph: Graph,
+        items: Vec<LevelItems>,
+    ) -> Result<Option<Course>, WorldFault>
+        ensures some { IfOk result (λ o. IfSome o (λ c. (c.worlds ≡ graph) × (c.levels ≡ map level_of items.items))) }
+        ensures none { IfOk result (λ o. IfNone o ((order : List ℕ) → IsPlan (plan_of graph order items.items) → ⊥)) }
+        ensures err { IfErr result (IsOrderFault graph) }
+    {
+        let order = graph.order(alloc)?;
+        let worlds = graph.world_of_each(alloc, order.as_slice())?;
+        if items.len() > MOST_LEVELS || !have_worlds(items.as_slice(), worlds.as_slice()) {
+            return Ok(None);
+        }
+        Ok(Some(Course {
+            graph,
+            order,
+            items,
+        }))
     }
 
     /// How many levels there are.
@@ -220,4 +249,19 @@ impl Course {
         }
         Ok(flags)
     }
+}
+
+// Whether these levels are of these worlds, one by one.
+fn have_worlds(items: &[LevelItems], worlds: &[u16]) -> bool
+    ensures { IsTrue result ↔ (map (λ (i : LevelItems). i.world) items.now ≡ worlds.now) }
+{
+    if items.len() != worlds.len() {
+        return false;
+    }
+    for (at, item) in items.iter().enumerate() {
+        if item.world != worlds[at] {
+            return false;
+        }
+    }
+    true
 }

@@ -1,5 +1,6 @@
 // The order of worlds.
-ghost use Rattle.std.specs.Prelude.{◌≡◌, ◌<◌, ℕ, ◌||◌, ◌&&◌, not, true, false, length, map, OnOk, IfOk, IfErr, MatchOption, ◌==◌, find, Some, drop, slice_index};
+ghost use Rattle.std.specs.Prelude.{◌≡◌, ◌↔◌, ◌<◌, ℕ, ◌||◌, ◌&&◌, not, true, false, ◌++◌, length, map, flat_map, replicate, nat_lt, OnOk, IfOk, IfErr, IfSome, IfNone, IsTrue, MatchOption, ◌==◌, find, Some, drop, slice_index};
+ghost use Rattle.std.specs.List.{list_all};
 ghost use Rattle.pg_worlds.specs.declared.graph.WorldFault.TheVariants.{OutOfMemory};
 ghost use Rattle.pg_worlds.specs.Flags.{flag, has};
 ghost use Rattle.pg_worlds.specs.Worlds.{could_stand, needs_of, world_count, worlds_of, IsFirstBelow, IsFirstEachTime, IsGraph, IsLoopFrom, IsWorldOrder, WorldOrderLaw};
@@ -60,6 +61,19 @@ impl Graph {
         Graph { levels, needs }
     }
 
+    /// The worlds, as `new` takes them, and None exactly where these are none: the lists are not of one length, or
+    /// longer than 64, or a need is not the number of a world. Takes no memory.
+    pub fn checked(levels: Vec<u16>, needs: Vec<Vec<u16>>) -> Option<Graph>
+        ensures some { IfSome result (λ g. g ≡ worlds_of levels.items (map (λ v. v.items) needs.items)) }
+        ensures none { IfNone result (IsGraph (worlds_of levels.items (map (λ v. v.items) needs.items)) → ⊥) }
+    {
+        if is_graph(levels.as_slice(), needs.as_slice()) {
+            Some(Graph { levels, needs })
+        } else {
+            None
+        }
+    }
+
     /// How many worlds there are.
     pub(crate) fn count(&self) -> usize
         ensures count { result ≡ world_count self.now }
@@ -86,6 +100,28 @@ impl Graph {
         ensures { (k : ℕ) → flag flags.new k ≡ (flag flags.old k || has (needs_of self.now world) k) }
     {
         add_all(flags, self.needs(world));
+    }
+
+    // How many levels this world has.
+    fn level_count(&self, world: u16) -> u16
+        ensures { result ≡ slice_index self.now.levels world }
+    {
+        if (world as usize) < self.levels.len() {
+            self.levels[world as usize]
+        } else {
+            0
+        }
+    }
+
+    /// The world of each level, where the worlds stand in this order.
+    pub(crate) fn world_of_each(&self, alloc: Global, order: &[u16]) -> Result<Vec<u16>, AllocError>
+        ensures { IfOk result (λ r. r.items ≡ flat_map (λ w. replicate (slice_index self.now.levels w) w) order.now) }
+    {
+        let mut worlds = Vec::new(alloc);
+        for world in order {
+            push_times(&mut worlds, *world, self.level_count(*world))?;
+        }
+        Ok(worlds)
     }
 
     // Whether this world doesn't stand yet and all its needs do.
@@ -198,6 +234,37 @@ impl Graph {
 pub fn world_order_law()
     ensures { WorldOrderLaw }
 {}
+
+// Whether all numbers are below the count.
+fn all_below(numbers: &[u16], count: usize) -> bool
+    ensures { result ≡ list_all (λ v. nat_lt v count) numbers.now }
+{
+    numbers.iter().all(|v| (*v as usize) < count)
+}
+
+// Whether all numbers of all rows are below the count.
+fn all_rows_below(rows: &[Vec<u16>], count: usize) -> bool
+    ensures { result ≡ list_all (λ row. list_all (λ v. nat_lt v count) row.items) rows.now }
+{
+    rows.iter().all(|row| all_below(row.as_slice(), count))
+}
+
+// Whether these are the numbers of levels and the needs of a game's worlds.
+fn is_graph(levels: &[u16], needs: &[Vec<u16>]) -> bool
+    ensures { IsTrue result ↔ IsGraph (worlds_of levels.now (map (λ v. v.items) needs.now)) }
+{
+    levels.len() == needs.len() && needs.len() <= MOST_WORLDS && all_rows_below(needs, needs.len())
+}
+
+// Puts a world behind the others so many times.
+fn push_times(worlds: &mut Vec<u16>, world: u16, times: u16) -> Result<(), AllocError>
+    ensures { OnOk result (worlds.new.items ≡ worlds.old.items ++ replicate times world) }
+{
+    for _ in 0..times {
+        worlds.push(world)?;
+    }
+    Ok(())
+}
 
 // Flags of worlds, all of them down.
 pub(crate) fn no_worlds() -> [bool; MOST_WORLDS]

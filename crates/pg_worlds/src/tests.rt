@@ -1,8 +1,4 @@
 // Words, orders, open levels and inventories of small games.
-ghost use Rattle.std.specs.Prelude.{◌≡◌, ◌<◌, ◌++◌, map, replicate, IfOk, OnOk, IsTrue, slice_index, flat_map, nat_lt};
-ghost use Rattle.std.specs.List.{list_all};
-ghost use Rattle.pg_worlds.specs.Worlds.{worlds_of, IsGraph};
-ghost use Rattle.pg_worlds.specs.declared.course.LevelItems.{LevelItems};
 
 mod each_rule;
 
@@ -10,31 +6,7 @@ use super::*;
 use std::alloc::{AllocError, Global};
 use std::test::Fail;
 
-// ---- games, of which it is tested that they meet the conditions of `Graph::new` and `Course::new`
-
-fn all_below(numbers: &[u16], count: usize) -> bool
-    ensures { result ≡ list_all (λ v. nat_lt v count) numbers.now }
-{
-    numbers.iter().all(|v| (*v as usize) < count)
-}
-
-fn all_rows_below(rows: &[Vec<u16>], count: usize) -> bool
-    ensures { result ≡ list_all (λ row. list_all (λ v. nat_lt v count) row.items) rows.now }
-{
-    rows.iter().all(|row| all_below(row.as_slice(), count))
-}
-
-fn is_graph(levels: &[u16], needs: &[Vec<u16>]) -> bool
-    ensures { IsTrue result → IsGraph (worlds_of levels.now (map (λ v. v.items) needs.now)) }
-{
-    if levels.len() != needs.len() {
-        return false;
-    }
-    if needs.len() > 64 {
-        return false;
-    }
-    all_rows_below(needs, needs.len())
-}
+// ---- games
 
 fn rows(alloc: Global, rows: &[&[u16]]) -> Result<Vec<Vec<u16>>, AllocError> {
     let mut all = Vec::new(alloc);
@@ -44,59 +16,11 @@ fn rows(alloc: Global, rows: &[&[u16]]) -> Result<Vec<Vec<u16>>, AllocError> {
     Ok(all)
 }
 
-fn graph(alloc: Global, levels: &[u16], needs: &[&[u16]]) -> Result<Graph, Fail>
-    ensures { IfOk result (λ g. g.levels ≡ levels.now) }
-{
-    let levels = levels.to_vec(alloc)?;
-    let needs = rows(alloc, needs)?;
-    if is_graph(levels.as_slice(), needs.as_slice()) {
-        Ok(Graph::new(levels, needs))
-    } else {
-        Err(Fail::from("no graph"))
+fn graph(alloc: Global, levels: &[u16], needs: &[&[u16]]) -> Result<Graph, Fail> {
+    match Graph::checked(levels.to_vec(alloc)?, rows(alloc, needs)?) {
+        Some(graph) => Ok(graph),
+        None => Err(Fail::from("no graph")),
     }
-}
-
-fn push_times(worlds: &mut Vec<u16>, world: u16, times: u16) -> Result<(), AllocError>
-    ensures { OnOk result (worlds.new.items ≡ worlds.old.items ++ replicate times world) }
-{
-    for _ in 0..times {
-        worlds.push(world)?;
-    }
-    Ok(())
-}
-
-fn times_of(levels: &[u16], world: u16) -> u16
-    ensures { result ≡ slice_index levels.now world }
-{
-    if (world as usize) < levels.len() {
-        levels[world as usize]
-    } else {
-        0
-    }
-}
-
-fn level_worlds(alloc: Global, levels: &[u16], order: &[u16]) -> Result<Vec<u16>, AllocError>
-    ensures { IfOk result (λ r. r.items ≡ flat_map (λ w. replicate (slice_index levels.now w) w) order.now) }
-{
-    let mut worlds = Vec::new(alloc);
-    for world in order {
-        push_times(&mut worlds, *world, times_of(levels, *world))?;
-    }
-    Ok(worlds)
-}
-
-fn have_worlds(items: &[LevelItems], worlds: &[u16]) -> bool
-    ensures { IsTrue result → map (λ (i : LevelItems). i.world) items.now ≡ worlds.now }
-{
-    if items.len() != worlds.len() {
-        return false;
-    }
-    for (at, item) in items.iter().enumerate() {
-        if item.world != worlds[at] {
-            return false;
-        }
-    }
-    true
 }
 
 fn course(
@@ -105,13 +29,9 @@ fn course(
     needs: &[&[u16]],
     items: Vec<LevelItems>,
 ) -> Result<Course, Fail> {
-    let graph = graph(alloc, levels, needs)?;
-    let order = graph.order(alloc)?;
-    let worlds = level_worlds(alloc, levels, order.as_slice())?;
-    if items.len() <= 65_536 && have_worlds(items.as_slice(), worlds.as_slice()) {
-        Ok(Course::new(graph, order, items))
-    } else {
-        Err(Fail::from("no levels in the order of levels"))
+    match Course::checked(alloc, graph(alloc, levels, needs)?, items)? {
+        Some(course) => Ok(course),
+        None => Err(Fail::from("no levels in the order of levels")),
     }
 }
 
@@ -128,6 +48,76 @@ fn plain(alloc: Global, world: u16) -> LevelItems {
         only_tactics: None,
         only_theorems: None,
     }
+}
+
+fn is_graph(alloc: Global, levels: &[u16], needs: &[&[u16]]) -> Result<bool, AllocError> {
+    Ok(Graph::checked(levels.to_vec(alloc)?, rows(alloc, needs)?).is_some())
+}
+
+// Whether so many worlds, each of which needs the one at the other end, are a graph.
+fn are_many_a_graph(alloc: Global, count: u16) -> Result<bool, AllocError> {
+    let levels = vec![in alloc; 1; count as usize]?;
+    let mut needs = Vec::new(alloc);
+    for world in 0..count {
+        needs.push(vec![in alloc; count - 1 - world]?)?;
+    }
+    Ok(Graph::checked(levels, needs).is_some())
+}
+
+#[test]
+fn worlds_are_at_most_64_and_need_worlds(rt: HostRuntime) -> Result<(), Fail> {
+    let alloc = rt.alloc();
+    let none = [].as_slice();
+    assert!(rt; is_graph(alloc, [].as_slice(), [].as_slice())?);
+    assert!(rt;
+        is_graph(
+            alloc,
+            [0, 7].as_slice(),
+            [[1, 0, 1].as_slice(), none].as_slice()
+        )?
+    );
+    assert!(rt;
+        !is_graph(
+            alloc,
+            [0, 7].as_slice(),
+            [[1, 2].as_slice(), none].as_slice()
+        )?
+    );
+    assert!(rt; !is_graph(alloc, [0].as_slice(), [none, none].as_slice())?);
+    assert!(rt; !is_graph(alloc, [0, 7].as_slice(), [none].as_slice())?);
+    assert!(rt; are_many_a_graph(alloc, 64)?);
+    assert!(rt; !are_many_a_graph(alloc, 65)?);
+    Ok(())
+}
+
+// Whether levels of these worlds are a course, where B has two levels and comes behind A and C, which have one.
+fn is_course(alloc: Global, worlds: &[u16]) -> Result<bool, Fail> {
+    let needs = [[].as_slice(), [0, 2].as_slice(), [].as_slice()];
+    let graph = graph(alloc, [1, 2, 1].as_slice(), needs.as_slice())?;
+    let mut items = Vec::new(alloc);
+    for world in worlds {
+        items.push(plain(alloc, *world))?;
+    }
+    Ok(Course::checked(alloc, graph, items)?.is_some())
+}
+
+#[test]
+fn a_course_has_the_levels_of_each_world_in_order(rt: HostRuntime) -> Result<(), Fail> {
+    let alloc = rt.alloc();
+    assert!(rt; is_course(alloc, [0, 2, 1, 1].as_slice())?);
+    assert!(rt; !is_course(alloc, [0, 1, 1, 2].as_slice())?);
+    assert!(rt; !is_course(alloc, [0, 2, 1].as_slice())?);
+    assert!(rt; !is_course(alloc, [0, 2, 1, 1, 1].as_slice())?);
+    assert!(rt; !is_course(alloc, [].as_slice())?);
+    let needs = [[0].as_slice()];
+    let looped = graph(alloc, [0].as_slice(), needs.as_slice())?;
+    assert!(rt;
+        matches!(
+            Course::checked(alloc, looped, Vec::new(alloc)),
+            Err(WorldFault::Loop { .. })
+        )
+    );
+    Ok(())
 }
 
 // ---- orders

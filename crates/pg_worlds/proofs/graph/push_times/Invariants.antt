@@ -1,5 +1,5 @@
 use Rattle.std.proofs.Common.{◌≡◌, ◌++◌, replicate}
-use Rattle.pg_worlds.proofs.tests.push_times.Given as goal
+use Rattle.pg_worlds.proofs.graph.push_times.Given as goal
 
 abbrev pub invariant-loop : goal.invariant-loop
 invariant-loop l = l.worlds.items ≡ l.initial.worlds.items ++ replicate l.counter l.world
