@@ -1,8 +1,5 @@
 //! Courses: which levels are open, and what a player has in a level.
-ghost use Rattle.std.specs.Prelude.{◌≡◌, ◌<◌, ◌^◌, ◌++◌, length, map, replicate, IfOk, OnOk, IsTrue, slice_index, nat_lt, flat_map};
-ghost use Rattle.std.specs.List.{list_all};
-ghost use Rattle.pg_worlds.specs.Worlds.{worlds_of, IsGraph};
-ghost use Rattle.pg_worlds.specs.declared.course.LevelItems.{LevelItems};
+ghost use Rattle.std.specs.Prelude.{◌≡◌, ◌<◌, length};
 
 use crate::Told;
 use anyhow::{Result, bail};
@@ -29,78 +26,16 @@ fn needs(alloc: Global, worlds: u16) -> Result<Vec<Vec<u16>>, AllocError> {
     Ok(needs)
 }
 
-fn all_below(numbers: &[u16], count: usize) -> bool
-    ensures { result ≡ list_all (λ v. nat_lt v count) numbers.now }
-{
-    numbers.iter().all(|v| (*v as usize) < count)
-}
-
-fn all_rows_below(rows: &[Vec<u16>], count: usize) -> bool
-    ensures { result ≡ list_all (λ row. list_all (λ v. nat_lt v count) row.items) rows.now }
-{
-    rows.iter().all(|row| all_below(row.as_slice(), count))
-}
-
-// Whether these are the levels and the needs of at most 64 worlds.
-fn is_graph(levels: &[u16], needs: &[Vec<u16>]) -> bool
-    ensures { IsTrue result → IsGraph (worlds_of levels.now (map (λ v. v.items) needs.now)) }
-{
-    if levels.len() != needs.len() {
-        return false;
-    }
-    if needs.len() > 64 {
-        return false;
-    }
-    all_rows_below(needs, needs.len())
-}
-
 // The graph of worlds with so many levels each.
-fn graph(alloc: Global, levels: &[u16]) -> Result<Graph>
-    requires { length levels.now < 2 ^ 16 }
-    ensures { IfOk result (λ g. g.levels ≡ levels.now) }
-{
-    let levels = levels.to_vec(alloc)?;
+fn graph(alloc: Global, levels: Vec<u16>) -> Result<Graph> {
     let needs = needs(alloc, levels.len() as u16)?;
-    if is_graph(levels.as_slice(), needs.as_slice()) {
-        Ok(Graph::new(levels, needs))
-    } else {
-        bail!("the worlds are no graph")
+    match Graph::checked(levels, needs) {
+        Some(graph) => Ok(graph),
+        None => bail!("the worlds are no graph"),
     }
 }
 
 // ---- the levels
-
-// Puts a world behind the others so many times.
-fn push_times(worlds: &mut Vec<u16>, world: u16, times: u16) -> Result<(), AllocError>
-    ensures { OnOk result (worlds.new.items ≡ worlds.old.items ++ replicate times world) }
-{
-    for _ in 0..times {
-        worlds.push(world)?;
-    }
-    Ok(())
-}
-
-// How many levels a world has.
-fn count_of(levels: &[u16], world: u16) -> u16
-    ensures { result ≡ slice_index levels.now world }
-{
-    if (world as usize) < levels.len() {
-        levels[world as usize]
-    } else {
-        0
-    }
-}
-
-// The world of each level, in the order of levels.
-fn world_of_each(alloc: Global, levels: &[u16], order: &[u16]) -> Result<Vec<u16>, AllocError>
-    ensures { IfOk result (λ r. r.items ≡ flat_map (λ w. replicate (slice_index levels.now w) w) order.now) }
-{
-    let mut worlds = Vec::new(alloc);
-    for world in order {
-        push_times(&mut worlds, *world, count_of(levels, *world))?;
-    }
-    Ok(worlds)
-}
 
 // A level of this number: each second one has a sample, and each brings a move and two theorems.
 fn level(alloc: Global, world: u16, number: u16) -> Result<LevelItems, AllocError> {
@@ -118,52 +53,38 @@ fn level(alloc: Global, world: u16, number: u16) -> Result<LevelItems, AllocErro
     })
 }
 
-// A level for each place, of the world that stands there.
-fn levels(alloc: Global, worlds: &[u16]) -> Result<Vec<LevelItems>, AllocError> {
+// Puts so many levels of a world behind the others.
+fn push_levels(
+    alloc: Global,
+    items: &mut Vec<LevelItems>,
+    world: u16,
+    count: u16,
+) -> Result<(), AllocError> {
+    for _ in 0..count {
+        let number = items.len() as u16;
+        items.push(level(alloc, world, number)?)?;
+    }
+    Ok(())
+}
+
+// So many levels of each world, in this order of worlds.
+fn levels(alloc: Global, order: &[u16], each: u16) -> Result<Vec<LevelItems>, AllocError> {
     let mut items = Vec::new(alloc);
-    let mut number: u16 = 0;
-    for world in worlds {
-        items.push(level(alloc, *world, number)?)?;
-        number = number.wrapping_add(1);
+    for world in order {
+        push_levels(alloc, &mut items, *world, each)?;
     }
     Ok(items)
 }
 
-// Whether these levels are of these worlds, one by one.
-fn have_worlds(items: &[LevelItems], worlds: &[u16]) -> bool
-    ensures { IsTrue result → map (λ (i : LevelItems). i.world) items.now ≡ worlds.now }
-{
-    if items.len() != worlds.len() {
-        return false;
-    }
-    for (at, item) in items.iter().enumerate() {
-        if item.world != worlds[at] {
-            return false;
-        }
-    }
-    true
-}
-
-// The course of worlds with so many levels each, and of these levels in their order.
-fn course_of(alloc: Global, counts: &[u16], items: Vec<LevelItems>) -> Result<Course>
-    requires { length counts.now < 2 ^ 16 }
-{
-    let graph = graph(alloc, counts)?;
-    let order = graph.order(alloc)?;
-    let worlds = world_of_each(alloc, counts, order.as_slice())?;
-    if items.len() <= 65_536 && have_worlds(items.as_slice(), worlds.as_slice()) {
-        Ok(Course::new(graph, order, items))
-    } else {
-        bail!("the levels are not those of the worlds")
-    }
-}
-
 // A course of so many worlds, each with so many levels.
 fn course(alloc: Global, worlds: u16) -> Result<Course> {
-    let counts = vec![in alloc; worlds; worlds as usize]?;
-    let order = graph(alloc, counts.as_slice())?.order(alloc)?;
-    let places = world_of_each(alloc, counts.as_slice(), order.as_slice())?;
-    course_of(alloc, counts.as_slice(), levels(alloc, places.as_slice())?)
+    let graph = graph(alloc, vec![in alloc; worlds; worlds as usize]?)?;
+    let order = graph.order(alloc)?;
+    let items = levels(alloc, order.as_slice(), worlds)?;
+    match Course::checked(alloc, graph, items)? {
+        Some(course) => Ok(course),
+        None => bail!("the levels are not those of the worlds"),
+    }
 }
 
 // ---- what is timed

@@ -1,6 +1,0 @@
-use Rattle.std.proofs.Common.{◌≡◌, replicate, take}
-use Rattle.std.specs.Prelude.{flat_map, slice_index}
-use Rattle.pg_bench.proofs.course.world_of_each.Given as goal
-
-abbrev pub invariant-loop-world : goal.invariant-loop-world
-invariant-loop-world l = l.worlds.items ≡ flat_map (λ w. replicate (slice_index l.levels w) w) (take l.world-index l.order)
