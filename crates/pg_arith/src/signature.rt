@@ -1,4 +1,4 @@
-ghost use Rattle.std.specs.Prelude.{◌≡◌, ◌<◌, [], length, IfOk, codes};
+ghost use Rattle.std.specs.Prelude.{◌≡◌, [], length, IfOk, codes};
 ghost use Rattle.pg_logic.specs.Declarations.{AreDeclared};
 ghost use Rattle.pg_arith.specs.View.{declarations, functions, predicates};
 

@@ -1,7 +1,6 @@
 // Readers and writers of std as a connection, a sink and a door. What they hold is told as far as
 // std tells it, which is nothing for the streams of the system. Each failure is counted.
 ghost use Rattle.std.specs.Prelude.{◌≡◌, ◌<◌, None, Some, Ok, [], length};
-ghost use Rattle.pg_base.specs.declared.outside.Place.TheVariants.{Standard};
 ghost use Rattle.pg_base.specs.Outside.{Asks, HasCause, KeepsRest, Reads, Writes};
 ghost use Rattle.pg_base.specs.Calls.{CountsFailures, FailsWhere};
 ghost use Rattle.pg_base.specs.Standard.{IsPort, counts_of};

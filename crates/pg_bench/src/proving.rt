@@ -1,5 +1,4 @@
 //! Proofs that the kernel checks.
-ghost use Rattle.std.specs.Prelude.{◌<◌};
 
 use crate::Told;
 use anyhow::{Result, bail};

@@ -1,6 +1,6 @@
 //! Goals with accepted proofs.
 
-ghost use Rattle.std.specs.Prelude.{◌≡◌, ℕ, [], Some, None, IfOk, IfSome, IfNone, IsTrue};
+ghost use Rattle.std.specs.Prelude.{◌≡◌, ℕ, [], IfOk, IfSome, IfNone, IsTrue};
 ghost use Rattle.pg_logic.specs.Signature as arith;
 ghost use Rattle.pg_logic.specs.Sound.{IsTheorem};
 ghost use Rattle.pg_logic.specs.Truth.{IsTrueOf};

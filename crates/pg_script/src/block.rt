@@ -1,5 +1,5 @@
 // Blocks and their items.
-ghost use Rattle.std.specs.Prelude.{◌≡◌, ◌≤◌, ◌<◌, length};
+ghost use Rattle.std.specs.Prelude.{◌≡◌, ◌≤◌, length};
 ghost use Rattle.pg_base.specs.Tokens.{word};
 ghost use Rattle.pg_script.specs.Blocks.{ends_line, is_semicolon, line_length, named_kind, kind_of, steps_of, move_at, stands_deeper, line_at, inner_at, entry_at, after_semicolon, next_at, entries_at, too_deep, block_at};
 ghost use Rattle.pg_script.specs.View.{words, shape, step, entry, Reads};

@@ -1,5 +1,5 @@
 // Expressions.
-ghost use Rattle.std.specs.Prelude.{◌≡◌, ◌≤◌, ◌<◌, ◌+◌, length, map, IfOk, IfSome};
+ghost use Rattle.std.specs.Prelude.{◌≡◌, ◌≤◌, ◌<◌, length, map, IfOk, IfSome};
 ghost use Rattle.pg_script.specs.Lines.{arg_length, args_from, after_close, expr_at};
 ghost use Rattle.pg_script.specs.View.{words, part, expression, Reads, with_rest, rest_words};
 ghost use Rattle.pg_script.specs.Joined.{TakesArgument};

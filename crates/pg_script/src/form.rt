@@ -1,5 +1,5 @@
 // What stands behind the words of moves.
-ghost use Rattle.std.specs.Prelude.{◌≡◌, ◌<◌, map, option_map};
+ghost use Rattle.std.specs.Prelude.{◌≡◌, map, option_map};
 ghost use Rattle.pg_base.specs.Tokens.{word};
 ghost use Rattle.pg_base.specs.declared.token.Wanted.TheVariants.{SignOrEnd};
 ghost use Rattle.pg_script.specs.declared.fault.ScriptFault.TheVariants.{Expected};

@@ -1,6 +1,5 @@
 // Parts of a move: tokens whose parentheses match.
 ghost use Rattle.std.specs.Prelude.{◌≡◌, ◌≤◌, ◌<◌, ◌+◌, length, drop, IfOk, IsFalse};
-ghost use Rattle.pg_script.specs.Marks.{place};
 ghost use Rattle.pg_script.specs.Lines.{stops, may_end, length_until, part_of, part_at};
 ghost use Rattle.pg_script.specs.View.{words, part, Reads, with_rest};
 

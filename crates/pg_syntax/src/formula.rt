@@ -1,7 +1,7 @@
 // The formula that a shape means.
 ghost use Rattle.std.specs.Prelude.{◌≡◌, ◌+◌, ◌^◌, ◌<◌, ◌≤◌, true, length, drop, take, IfOk, OnOk, if◌then◌else◌};
 ghost use Rattle.std.specs.Option.{option_or};
-ghost use Rattle.pg_logic.specs.Tree.{eq, falsum};
+ghost use Rattle.pg_logic.specs.Tree.{eq};
 ghost use Rattle.pg_grammar.specs.Shapes as grammar;
 ghost use Rattle.pg_meaning.specs.Scope as names_in;
 ghost use Rattle.pg_meaning.specs.Faults as meaning;

@@ -1,11 +1,10 @@
 //! Terms and formulas as texts.
-ghost use Rattle.std.specs.Prelude.{◌≡◌, ◌<◌, ◌++◌, [], IfOk, OnOk, string_bytes};
+ghost use Rattle.std.specs.Prelude.{◌≡◌, ◌<◌, ◌++◌, IfOk, OnOk, string_bytes};
 ghost use Rattle.pg_arith.specs.View.{declarations};
 ghost use Rattle.pg_terms.specs.View.{term, formula};
 ghost use Rattle.pg_terms.specs.View as view;
 ghost use Rattle.pg_grammar.specs.Printing.{shape_of, joined};
 ghost use Rattle.pg_shape.specs.View.{op, quantifier};
-ghost use Rattle.pg_spelling.specs.Fresh.{fresh};
 ghost use Rattle.pg_logic.specs.Tree.{imp};
 ghost use Rattle.pg_meaning.specs.Scope.{outermost};
 ghost use Rattle.pg_spelling.specs.Named.{named_formula};

@@ -1,5 +1,5 @@
 // The order of worlds.
-ghost use Rattle.std.specs.Prelude.{◌≡◌, ◌↔◌, ◌<◌, ℕ, ◌||◌, ◌&&◌, not, true, false, ◌++◌, length, map, flat_map, replicate, nat_lt, OnOk, IfOk, IfErr, IfSome, IfNone, IsTrue, MatchOption, ◌==◌, find, Some, drop, slice_index};
+ghost use Rattle.std.specs.Prelude.{◌≡◌, ◌↔◌, ◌<◌, ℕ, ◌||◌, not, true, false, ◌++◌, length, map, flat_map, replicate, nat_lt, OnOk, IfOk, IfErr, IfSome, IfNone, IsTrue, MatchOption, find, Some, drop, slice_index};
 ghost use Rattle.std.specs.List.{list_all};
 ghost use Rattle.pg_worlds.specs.declared.graph.WorldFault.TheVariants.{OutOfMemory};
 ghost use Rattle.pg_worlds.specs.Flags.{flag, has};
