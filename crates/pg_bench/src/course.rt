@@ -26,10 +26,10 @@ fn needs(alloc: Global, worlds: u16) -> Result<Vec<Vec<u16>>, AllocError> {
     Ok(needs)
 }
 
-// The graph of worlds with so many levels each.
-fn graph(alloc: Global, levels: Vec<u16>) -> Result<Graph> {
-    let needs = needs(alloc, levels.len() as u16)?;
-    match Graph::checked(levels, needs) {
+// The graph of so many worlds, each with so many levels.
+fn graph(alloc: Global, worlds: u16) -> Result<Graph> {
+    let levels = vec![in alloc; worlds; worlds as usize]?;
+    match Graph::checked(levels, needs(alloc, worlds)?) {
         Some(graph) => Ok(graph),
         None => bail!("the worlds are no graph"),
     }
@@ -61,7 +61,7 @@ fn push_levels(
     count: u16,
 ) -> Result<(), AllocError> {
     for _ in 0..count {
-        let number = items.len() as u16;
+        let number = (items.len() % 65_536) as u16;
         items.push(level(alloc, world, number)?)?;
     }
     Ok(())
@@ -78,7 +78,7 @@ fn levels(alloc: Global, order: &[u16], each: u16) -> Result<Vec<LevelItems>, Al
 
 // A course of so many worlds, each with so many levels.
 fn course(alloc: Global, worlds: u16) -> Result<Course> {
-    let graph = graph(alloc, vec![in alloc; worlds; worlds as usize]?)?;
+    let graph = graph(alloc, worlds)?;
     let order = graph.order(alloc)?;
     let items = levels(alloc, order.as_slice(), worlds)?;
     match Course::checked(alloc, graph, items)? {
