@@ -22,7 +22,6 @@ LONG_ENOUGH = 0.1
 MOST_STACK = 65536
 BYTES = (4096, 8192, 16384)
 TOKENS = (2048, 4096, 8192)
-FEW_TOKENS = (128, 256, 512)
 HEIGHTS = (13, 14)
 LONG_HEIGHTS = (2048, 4096, 8192)
 WORLDS = (16, 32, 64)
@@ -34,17 +33,12 @@ PROOFS = ("and-3", "and-11", "and-101", "equal-3", "equal-11", "equal-101")
 CHAINS = ("chain-3", "chain-11")
 
 
-def sizes_of_print(kind):
-    """Names that are all the same are printed in a time that grows with the cube of their number."""
-    return FEW_TOKENS if kind == "same-names" else TOKENS
-
-
 PARTS = (
     [(f"course:{kind}", WORLDS) for kind in COURSES]
     + [(f"script:{kind}", BYTES) for kind in SCRIPTS]
     + [(f"tokens:{kind}", TOKENS) for kind in FORMULAS]
     + [(f"read:{kind}", TOKENS) for kind in FORMULAS]
-    + [(f"print:{kind}", sizes_of_print(kind)) for kind in FORMULAS if kind != "arity"]
+    + [(f"print:{kind}", TOKENS) for kind in FORMULAS if kind != "arity"]
     + [(f"check:{kind}", HEIGHTS) for kind in PROOFS]
     + [(f"check:{kind}", LONG_HEIGHTS) for kind in CHAINS]
 )

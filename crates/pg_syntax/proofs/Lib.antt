@@ -6,6 +6,7 @@ mod Examples
 pub mod FreshNames
 pub mod Joins
 pub mod Lists
+pub mod Numbers
 pub mod Readable
 pub mod StatementTruth
 pub mod Texts

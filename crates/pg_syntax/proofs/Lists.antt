@@ -164,6 +164,9 @@ fresh-turned names declared x =
 pub decimal-some : (front : Name) (n : ℕ) → n < 2 ^ 64 → numbered front n ≡ [] → ⊥
 decimal-some front n lt e = absurd (omega (arith, length-append front (decimal n), ap length e, decimal_nonempty n lt))
 
+pub free-end : (names : List Name) (front : Name) (room i : ℕ) → i ≡ room → free_number names front (room - i) (i + 1) ≡ room + 1
+free-end names front room i e = let none : room - i ≡ 0 = omega arith in ap (λ more. free_number names front more (i + 1)) none ∙ ap (λ k. k + 1) e
+
 pub free-here : (names : List Name) (front : Name) (room i : ℕ) → i < room → is_taken names (numbered front (i + 1)) ≡ false → free_number names front (room - i) (i + 1) ≡ i + 1
 free-here names front room i lt is = free-step names front room i lt ∙ ap (λ b. cond b (free_number names front (room - (i + 1)) (i + 1 + 1)) (i + 1)) is
 

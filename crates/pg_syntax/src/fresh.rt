@@ -1,5 +1,5 @@
 // Names made fresh by a number.
-ghost use Rattle.std.specs.Prelude.{◌≡◌, ◌≢◌, ◌++◌, [], ◌+◌, ◌<◌, ◌≤◌, ◌^◌, length, IfOk, string_bytes};
+ghost use Rattle.std.specs.Prelude.{◌≡◌, ◌≢◌, ◌++◌, [], ◌+◌, ◌<◌, ◌≤◌, ◌^◌, ◌||◌, ℕ, false, length, slice_index_or, IfOk, IfSome, IsTrue, string_bytes};
 ghost use Rattle.std.specs.List.{list_any};
 ghost use Rattle.std.specs.Str.{bytes_eq};
 ghost use Rattle.pg_arith.specs.View.{declarations};
@@ -82,6 +82,51 @@ fn stem(name: &str) -> &str
     name.split_at(end).0
 }
 
+/// The number behind a stem, where the name is the stem with a number. None else, and for a number of more than 64 bits.
+fn number_behind(stem: &str, name: &str) -> Option<usize>
+    ensures { IfSome result (λ n. name.now ≡ numbered stem.now n) }
+{
+    let digits = name.strip_prefix(stem)?;
+    match digits.as_bytes() {
+        [first, ..] if *first > b'0' => digits.parse::<usize>().ok(),
+        _ => None,
+    }
+}
+
+/// Sets the flag of the number behind the stem, where the name is the stem with a number. The flag of number k + 1 is at
+/// place k.
+fn mark_number(used: &mut [bool], stem: &str, name: &str)
+    ensures length { length used.new ≡ length used.old }
+    ensures named { (k : ℕ) → IsTrue (slice_index_or used.new k false) → IsTrue (slice_index_or used.old k false || bytes_eq (numbered stem.now (k + 1)) name.now) }
+{
+    match number_behind(stem, name) {
+        Some(number) if number > 0 && number <= used.len() => used[number - 1] = true,
+        _ => {}
+    }
+}
+
+/// Sets the flags of the numbers behind the stem in these names.
+fn mark_names(used: &mut [bool], stem: &str, names: &[Name])
+    ensures length { length used.new ≡ length used.old }
+    ensures named { (k : ℕ) → IsTrue (slice_index_or used.new k false) → IsTrue (slice_index_or used.old k false || list_any (bytes_eq (numbered stem.now (k + 1))) names.now) }
+{
+    for name in names {
+        mark_number(used, stem, name.as_str());
+    }
+}
+
+/// Sets the flags of the numbers behind the stem in the names of the variables that live.
+fn mark_live(used: &mut [bool], stem: &str, vars: &[Option<Name>])
+    ensures length { length used.new ≡ length used.old }
+    ensures named { (k : ℕ) → IsTrue (slice_index_or used.new k false) → IsTrue (slice_index_or used.old k false || list_any (bytes_eq (numbered stem.now (k + 1))) (live vars.now)) }
+{
+    for var in vars {
+        if let Some(name) = var {
+            mark_number(used, stem, name.as_str());
+        }
+    }
+}
+
 /// A stem with a number behind it.
 fn numbered(alloc: Global, stem: &str, number: usize) -> Result<String, AllocError>
     ensures made { IfOk result (λ made. string_bytes made ≡ numbered stem.now number) }
@@ -113,6 +158,27 @@ impl Taken<'_> {
             + self.sig.predicate_count() as usize
     }
 
+    /// Sets the flags of the numbers behind the stem in the names of binders and variables: one pass over the names, which
+    /// tells of most numbers that they are taken.
+    #[tactic(auto, using(crate::proofs::Lists::taken_parts))]
+    fn mark_used(&self, used: &mut [bool], stem: &str)
+        ensures length { length used.new ≡ length used.old }
+        ensures taken { (k : ℕ) → IsTrue (slice_index_or used.new k false) → IsTrue (slice_index_or used.old k false || is_taken (taken_names self.now) (numbered stem.now (k + 1))) }
+    {
+        mark_names(used, stem, self.binders);
+        mark_live(used, stem, self.vars);
+    }
+
+    /// For each number from 1 to `room`, at the place before it: whether it is known that the stem with it is taken.
+    fn used_numbers(&self, alloc: Global, stem: &str, room: usize) -> Result<Vec<bool>, AllocError>
+        ensures length { IfOk result (λ used. length used.items ≡ room) }
+        ensures taken { IfOk result (λ used. (k : ℕ) → IsTrue (slice_index_or used.items k false) → IsTrue (is_taken (taken_names self.now) (numbered stem.now (k + 1)))) }
+    {
+        let mut used = vec![in alloc; false; room]?;
+        self.mark_used(&mut used, stem);
+        Ok(used)
+    }
+
     /// A stem with the least number from 1 on that makes it free.
     fn first_free(&self, alloc: Global, stem: &str) -> Result<String, AllocError>
         ensures room { length (taken_names self.now) + 1 < 2 ^ 64 }
@@ -120,7 +186,11 @@ impl Taken<'_> {
         ensures made { IfOk result (λ made. string_bytes made ≡ numbered stem.now (free_number (taken_names self.now) stem.now (length (taken_names self.now)) 1)) }
     {
         let room = self.count();
+        let used = self.used_numbers(alloc, stem, room)?;
         for before in 0..room {
+            if used[before] {
+                continue;
+            }
             let made = numbered(alloc, stem, before + 1)?;
             if !self.has(made.as_str()) {
                 return Ok(made);

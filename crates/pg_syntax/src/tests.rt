@@ -263,15 +263,15 @@ fn signs_stand_between_their_operands(rt: HostRuntime) -> Result<(), Fail> {
 // ---- fresh names
 
 /// Whether a name is made fresh so, where these are taken besides those of the game.
-fn freshens(alloc: Global, text: &str, want: &str) -> Result<bool, AllocError> {
+fn freshens(alloc: Global, taken: &[&str], text: &str, want: &str) -> Result<bool, AllocError> {
     let Ok(sig) = game(alloc) else {
         return Err(AllocError);
     };
-    let mut taken = Items::new(alloc);
-    for x in ["h9", "h2", "x1"] {
-        taken.push(name(alloc, x)?)?;
+    let mut names = Items::new(alloc);
+    for x in taken {
+        names.push(name(alloc, x)?)?;
     }
-    let made = fresh_name(alloc, &name(alloc, text)?, taken.as_slice(), &sig)?;
+    let made = fresh_name(alloc, &name(alloc, text)?, names.as_slice(), &sig)?;
     Ok(made.as_str() == want)
 }
 
@@ -286,8 +286,30 @@ fn a_fresh_name_has_the_least_number(rt: HostRuntime) -> Result<(), Fail> {
         ("succ", "succ1"),
         ("≤", "≤1"),
     ] {
-        assert!(rt; freshens(alloc, text, want)?, "{text}");
+        let taken = ["h9", "h2", "x1"];
+        assert!(rt; freshens(alloc, taken.as_slice(), text, want)?, "{text}");
     }
+    Ok(())
+}
+
+#[test]
+fn only_a_number_without_a_zero_in_front_counts(rt: HostRuntime) -> Result<(), Fail> {
+    let alloc = rt.alloc();
+    let taken = [
+        "x3",
+        "x",
+        "x02",
+        "x1",
+        "x0",
+        "x18446744073709551618",
+        "x2y",
+        "y2",
+        "x'2",
+    ];
+    assert!(rt; freshens(alloc, taken.as_slice(), "x", "x2")?);
+    assert!(rt; freshens(alloc, taken.as_slice(), "x7", "x7")?);
+    assert!(rt; freshens(alloc, ["x3", "x2", "x", "x1"].as_slice(), "x3", "x4")?);
+    assert!(rt; freshens(alloc, ["x1", "x1", "x1"].as_slice(), "x1", "x2")?);
     Ok(())
 }
 
