@@ -1,0 +1,66 @@
+// What rows have declared for the rows behind them.
+use crate::fault::RowFault;
+use pg_arith::Signature;
+use pg_syntax::Names;
+use std::alloc::{AllocError, Global};
+
+/// A signature under its name, with the names of its free variables.
+#[derive(Debug, Drop)]
+pub struct Game {
+    pub name: String,
+    pub signature: Signature,
+    pub variables: Names,
+}
+
+/// What rows have declared for the rows behind them.
+#[derive(Debug, Drop)]
+pub struct Session {
+    alloc: Global,
+    /// How often a row's work is done, so that it can be timed.
+    pub times: u64,
+    pub games: Vec<Game>,
+}
+
+impl Session {
+    /// Nothing is declared, and each row's work is done once.
+    pub fn new(alloc: Global) -> Session {
+        Session {
+            alloc,
+            times: 1,
+            games: Vec::new(alloc),
+        }
+    }
+
+    /// The row `times N`: the work of each row behind it is done N times.
+    pub fn set_times(&mut self, rest: &str) -> Result<(), RowFault> {
+        match rest.parse::<u64>() {
+            Ok(times) => {
+                self.times = times;
+                Ok(())
+            }
+            Err(_) => Err(RowFault::Unread("`times` wants a number")),
+        }
+    }
+
+    /// A new game under this name, with no declarations and no variables; an earlier one of the name is forgotten.
+    pub fn begin_game(&mut self, name: &str) -> Result<(), AllocError> {
+        self.games.retain(|game| game.name.as_str() != name);
+        let game = Game {
+            name: String::from_str(self.alloc, name)?,
+            signature: Signature::new(self.alloc)?,
+            variables: Names {
+                vars: Vec::new(self.alloc),
+            },
+        };
+        self.games.push(game)?;
+        Ok(())
+    }
+
+    /// The game of this name.
+    pub fn game(&self, name: &str) -> Result<&Game, RowFault> {
+        match self.games.iter().find(|game| game.name.as_str() == name) {
+            Some(game) => Ok(game),
+            None => Err(RowFault::Unread("no game has this name")),
+        }
+    }
+}

@@ -1,0 +1,1 @@
+// Trees as they stand in rows.
