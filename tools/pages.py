@@ -1,0 +1,96 @@
+#!/usr/bin/env python3
+"""Holds the pages to the programs: runs the lines of their examples and compares what is printed.
+
+In README.md and docs/*.md an example is an indented block whose lines begin with `$ `: a command, run at the top of the
+checkout, and below it what it prints. A table whose first column is headed `Script` and whose others are `Place` and
+`Expected there` is run too, each script as a row of `pg_rows`. And a game that a stored run plays is the shipped one.
+
+The gate runs this once everything is proved and built. It prints each difference, and then how many examples hold.
+"""
+import glob
+import os
+import re
+import subprocess
+import sys
+
+TOP = os.path.dirname(os.path.dirname(os.path.realpath(__file__)))
+ROWS = f"{TOP}/crates/pg_rows/out/pg_rows"
+PROGRAM = f"{TOP}/crates/proofgame/out/proofgame"
+
+
+def examples(text):
+    """Yields (command, output) for each command of the indented blocks of a page."""
+    for block in re.findall(r"(?m)^((?:    .*\n)+)", text + "\n"):
+        lines = [it[4:] for it in block.split("\n")[:-1]]
+        if not lines[0].startswith("$ "):
+            continue
+        command, printed = None, []
+        for line in lines:
+            if line.startswith("$ "):
+                if command:
+                    yield command, printed
+                command, printed = line[2:], []
+            else:
+                printed.append(line)
+        yield command, printed
+
+
+def ran(command):
+    """What a command prints at the top of the checkout."""
+    done = subprocess.run(["bash", "-c", command], cwd=TOP, stdin=subprocess.DEVNULL, capture_output=True, text=True, check=False)
+    return (done.stdout + done.stderr).split("\n")[:-1]
+
+
+def faults(text):
+    """Yields (script, answer) for each line of the tables of faults of a page."""
+    for table in re.findall(r"(?m)^\| Script \| Place \| Expected there \|\n\|[-|]*\|\n((?:\|.*\|\n)+)", text):
+        for line in table.split("\n")[:-1]:
+            script, place, wanted = re.match(r"\| `(.*?)`(?: [^|]*)? \| (.*?) \| (.*) \|$", line).groups()
+            # (what stands behind `: ` or `, since` is the reason)
+            yield script, int(re.match(r"\d+", place)[0]), re.split(r": |, since", wanted)[0]
+
+
+def told(script):
+    """The line that `pg_rows` answers to a script."""
+    done = subprocess.run([ROWS], input=f"script {script}\n", capture_output=True, text=True, check=False)
+    return done.stdout.split("\n")[1].strip()
+
+
+def differences(page, text):
+    """Yields for each example of a page what is wrong with it, or None."""
+    for command, wanted in examples(text):
+        got = ran(command)
+        yield None if got == wanted else f"{page}: `{command}` prints {got}, and not {wanted}"
+    for script, place, wanted in faults(text):
+        got = told(script)
+        is_of_token = wanted == "a token's fault" and not got.startswith("expected")
+        is_right = (is_of_token or got.startswith(f"expected {wanted} ")) and re.search(rf"at byte {place}\b", got)
+        yield None if is_right else f"{page}: the script `{script}` has `{got}`, and not {wanted} at {place}"
+
+
+def games():
+    """Yields for each shipped game that a stored run plays whether it is that very text."""
+    for path in glob.glob(f"{TOP}/crates/*/data/*.game"):
+        shipped = f"{TOP}/games/{os.path.basename(path)}"
+        if os.path.isfile(shipped):
+            with open(path, "rb") as one, open(shipped, "rb") as other:
+                yield None if one.read() == other.read() else f"{path} is not the text of {shipped}"
+
+
+def main():
+    for program in (ROWS, PROGRAM):
+        if not os.path.isfile(program):
+            sys.exit(f"{program} is not built: run `rt ci` first")
+    found = [*games()]
+    for page in sorted([f"{TOP}/README.md", *glob.glob(f"{TOP}/docs/*.md")]):
+        with open(page, encoding="utf-8") as it:
+            found += differences(os.path.relpath(page, TOP), it.read())
+    wrong = [it for it in found if it]
+    for it in wrong:
+        print(it)
+    print(f"pages: {len(found) - len(wrong)} passed, {len(wrong)} failed")
+    return 1 if wrong else 0
+
+
+if __name__ == "__main__":
+    sys.exit(main())
