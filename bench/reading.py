@@ -1,15 +1,16 @@
 #!/usr/bin/env python3
 """Times `proofgame play` on game texts of 64 KiB to 1 MiB, and prints each time and its ratio to the half text's.
 
-A ratio near 2 says that the time grows in line with the length. Run it at the top of a checkout, once the program is
-built: `bench/reading.py`. It prints only; it judges nothing.
+A ratio near 2 says that the time grows in line with the length. Build the program first (`./proofgame --build`), then run
+`bench/reading.py`. It prints only; it judges nothing.
 """
 import os
 import subprocess
+import sys
 import tempfile
 import time
 
-TOP = os.path.dirname(os.path.dirname(os.path.abspath(__file__)))
+TOP = os.path.dirname(os.path.dirname(os.path.realpath(__file__)))
 PROGRAM = os.path.join(TOP, "crates/proofgame/out/proofgame")
 GAME = 'World "W"\nLevel 1\nStatement : succ 0 = succ 0 := by rfl\nNewTactic rfl\n'
 RUNS = 7
@@ -48,6 +49,8 @@ def best(path):
 
 
 def main():
+    if not os.path.isfile(PROGRAM):
+        sys.exit(f"{PROGRAM} is not built: run ./proofgame --build first")
     with tempfile.TemporaryDirectory() as folder:
         path = os.path.join(folder, "game")
         with open(os.path.join(TOP, "games/first.game"), "rb") as shipped, open(path, "wb") as out:
@@ -60,7 +63,7 @@ def main():
                 with open(path, "w", encoding="utf-8") as out:
                     out.write(text(2**power))
                 spent, said, status = best(path)
-                ratio = "" if before is None else f"  ratio {spent / before:.2f}"
+                ratio = f"  ratio {spent / before:.2f}" if before else ""
                 print(f"{kind:24} {2**power // 1024:5} KiB {spent:8.1f} ms  {said}, status {status}{ratio}")
                 before = spent
 
