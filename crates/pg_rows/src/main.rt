@@ -4,9 +4,13 @@
 //! An empty line, or one that begins with `#`, is printed as it is. Behind each row stand its lines, four blanks in.
 #![tactic(auto)]
 
+mod courses;
+mod draft;
 mod fault;
+mod forms;
 mod formulas;
 mod games;
+mod held;
 mod proofs;
 mod reply;
 mod row;
@@ -67,9 +71,16 @@ fn done(
             formulas::row(alloc, session, row, reply)
         }
         "script" | "sample" | "items" => scripts::row(alloc, session, row, reply),
-        "worlds" | "world" | "level" | "open" | "inventory" | "least" | "word" => {
-            worlds::row(alloc, session, row, reply)
-        }
+        "worlds"
+        | "levels"
+        | "level"
+        | "course"
+        | "open"
+        | "missing"
+        | "unlocked"
+        | "inventory"
+        | "least"
+        | "word" => worlds::row(alloc, session, row, reply),
         "theorem" | "check" | "admit" => proofs::row(alloc, session, row, reply),
         _ => Err(RowFault::Unread("no layer has this word")),
     }

@@ -1,7 +1,10 @@
 // What rows have declared for the rows behind them.
+use crate::courses::NamedCourse;
+use crate::draft::Draft;
 use crate::fault::RowFault;
 use pg_arith::Signature;
 use pg_syntax::Names;
+use pg_worlds::Course;
 use std::alloc::{AllocError, Global};
 
 /// A signature under its name, with the names of its free variables.
@@ -19,6 +22,9 @@ pub struct Session {
     /// How often a row's work is done, so that it can be timed.
     pub times: u64,
     pub games: Vec<Game>,
+    /// The worlds and levels of the rows since the last row `worlds`.
+    pub draft: Draft,
+    pub courses: Vec<NamedCourse>,
 }
 
 impl Session {
@@ -28,6 +34,8 @@ impl Session {
             alloc,
             times: 1,
             games: Vec::new(alloc),
+            draft: Draft::new(alloc),
+            courses: Vec::new(alloc),
         }
     }
 
@@ -61,6 +69,26 @@ impl Session {
         match self.games.iter().find(|game| game.name.as_str() == name) {
             Some(game) => Ok(game),
             None => Err(RowFault::Unread("no game has this name")),
+        }
+    }
+
+    /// Keeps a course under this name; an earlier one of the name is forgotten.
+    pub fn put_course(&mut self, name: &str, course: Course) -> Result<(), AllocError> {
+        self.courses.retain(|named| named.name.as_str() != name);
+        let name = String::from_str(self.alloc, name)?;
+        self.courses.push(NamedCourse { name, course })?;
+        Ok(())
+    }
+
+    /// The course of this name.
+    pub fn course(&self, name: &str) -> Result<&Course, RowFault> {
+        match self
+            .courses
+            .iter()
+            .find(|named| named.name.as_str() == name)
+        {
+            Some(named) => Ok(&named.course),
+            None => Err(RowFault::Unread("no course has this name")),
         }
     }
 }

@@ -3,10 +3,33 @@ use pg_base::decoded;
 use std::alloc::{AllocError, Global};
 
 /// The text that a row has: each `{N|piece}` stands for `piece` N times, where N is a number of at most five digits, and
-/// then escapes are read as in a text of a game: `\n`, `\t`, `\\`, `\"`, `\{`. It fails only for want of memory.
+/// then escapes are read as in a text of a game: `\n`, `\t`, `\\`, `\"`, `\{`, and besides `\r`, a carriage return. It
+/// fails only for want of memory.
 pub fn text_in(alloc: Global, row: &str) -> Result<String, AllocError> {
     let long = repeated(alloc, row)?;
-    decoded(alloc, long.as_str())
+    let returned = with_returns(alloc, long.as_str())?;
+    decoded(alloc, returned.as_str())
+}
+
+/// The text with a carriage return in place of each `\r`.
+fn with_returns(alloc: Global, text: &str) -> Result<String, AllocError> {
+    let mut out = String::new(alloc);
+    let mut escaped = false;
+    for c in text.chars() {
+        if escaped && c == 'r' {
+            out.push('\r')?;
+        } else if escaped {
+            out.push('\\')?;
+            out.push(c)?;
+        } else if c != '\\' {
+            out.push(c)?;
+        }
+        escaped = c == '\\' && !escaped;
+    }
+    if escaped {
+        out.push('\\')?;
+    }
+    Ok(out)
 }
 
 /// The text with its repetitions written out.
