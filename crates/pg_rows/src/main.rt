@@ -4,7 +4,10 @@
 //! An empty line, or one that begins with `#`, is printed as it is. Behind each row stand its lines, four blanks in.
 #![tactic(auto)]
 
+mod changes;
 mod courses;
+mod cursor;
+mod declared;
 mod draft;
 mod fault;
 mod forms;
@@ -16,9 +19,12 @@ mod reply;
 mod row;
 mod scripts;
 mod session;
+mod spelling;
+mod steps;
 mod text;
 mod tokens;
 mod tree;
+mod words;
 mod worlds;
 
 use fault::RowFault;
@@ -64,10 +70,18 @@ fn done(
     match row.layer {
         "times" => session.set_times(row.rest),
         "tokens" | "means" | "reserved" => tokens::row(alloc, session, row, reply),
-        "game" | "function" | "constant" | "predicate" | "axioms" | "value" | "fits" => {
-            games::row(alloc, session, row, reply)
-        }
-        "vars" | "term" | "formula" | "fresh" | "statement" => {
+        "tree" | "same" | "opened" | "substituted" => changes::row(alloc, session, row, reply),
+        "game"
+        | "copied"
+        | "function"
+        | "constant"
+        | "predicate"
+        | "axioms"
+        | "declared"
+        | "named"
+        | "fits"
+        | "value" => games::row(alloc, session, row, reply),
+        "vars" | "term" | "formula" | "print" | "fresh" => {
             formulas::row(alloc, session, row, reply)
         }
         "script" | "sample" | "items" => scripts::row(alloc, session, row, reply),
@@ -81,7 +95,7 @@ fn done(
         | "inventory"
         | "least"
         | "word" => worlds::row(alloc, session, row, reply),
-        "theorem" | "check" | "admit" => proofs::row(alloc, session, row, reply),
+        "theorem" | "check" | "admit" | "uses" => proofs::row(alloc, session, row, reply),
         _ => Err(RowFault::Unread("no layer has this word")),
     }
 }

@@ -3,16 +3,26 @@ use crate::courses::NamedCourse;
 use crate::draft::Draft;
 use crate::fault::RowFault;
 use pg_arith::Signature;
+use pg_kernel::Theorems;
 use pg_syntax::Names;
 use pg_worlds::Course;
 use std::alloc::{AllocError, Global};
 
-/// A signature under its name, with the names of its free variables.
+/// A signature under its name, with the names of its free variables and its theorems.
 #[derive(Debug, Drop)]
 pub struct Game {
     pub name: String,
     pub signature: Signature,
     pub variables: Names,
+    pub theorems: Theorems,
+}
+
+impl Game {
+    /// The theorems are the axioms of what is declared, and no other.
+    pub fn renew_theorems(&mut self, alloc: Global) -> Result<(), AllocError> {
+        self.theorems = Theorems::new(alloc, &self.signature)?;
+        Ok(())
+    }
 }
 
 /// What rows have declared for the rows behind them.
@@ -52,16 +62,14 @@ impl Session {
 
     /// A new game under this name, with no declarations and no variables; an earlier one of the name is forgotten.
     pub fn begin_game(&mut self, name: &str) -> Result<(), AllocError> {
-        self.games.retain(|game| game.name.as_str() != name);
-        let game = Game {
-            name: String::from_str(self.alloc, name)?,
-            signature: Signature::new(self.alloc)?,
-            variables: Names {
-                vars: Vec::new(self.alloc),
-            },
-        };
-        self.games.push(game)?;
-        Ok(())
+        let signature = Signature::new(self.alloc)?;
+        self.put_game(name, signature)
+    }
+
+    /// A game under the name `to` that declares what the one of the name `from` does, on a copy of its signature.
+    pub fn copy_game(&mut self, from: &str, to: &str) -> Result<(), RowFault> {
+        let signature = self.game(from)?.signature.copied(self.alloc)?;
+        Ok(self.put_game(to, signature)?)
     }
 
     /// The game of this name.
@@ -90,5 +98,35 @@ impl Session {
             Some(named) => Ok(&named.course),
             None => Err(RowFault::Unread("no course has this name")),
         }
+    }
+
+    /// The same, for a change.
+    pub fn game_mut(&mut self, name: &str) -> Result<&mut Game, RowFault> {
+        let Some(at) = self
+            .games
+            .iter()
+            .position(|game| game.name.as_str() == name)
+        else {
+            return Err(RowFault::Unread("no game has this name"));
+        };
+        match self.games.get_mut(at) {
+            Some(game) => Ok(game),
+            None => Err(RowFault::Unread("no game has this name")),
+        }
+    }
+
+    fn put_game(&mut self, name: &str, signature: Signature) -> Result<(), AllocError> {
+        self.games.retain(|game| game.name.as_str() != name);
+        let theorems = Theorems::new(self.alloc, &signature)?;
+        let game = Game {
+            name: String::from_str(self.alloc, name)?,
+            signature,
+            variables: Names {
+                vars: Vec::new(self.alloc),
+            },
+            theorems,
+        };
+        self.games.push(game)?;
+        Ok(())
     }
 }
