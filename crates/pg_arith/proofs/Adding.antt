@@ -20,14 +20,15 @@ is_signature-function fs gs ps a b f v s e made named room none =
     }
 
 pub is_signature-predicate : (fs : List Function) (ps qs : List Predicate) (a b : List ℕ) (p : Predicate) (v : List Function × List Predicate) → IsSignature (fs, ps) a b → (fs, ps) ≡ v →
-    qs ≡ ps ++ p ∷ [] → length (declarations v).predicates < 65535 → predicate_refusal (declarations v) (predicate p) ≡ None → IsSignature (fs, qs) a b
-is_signature-predicate fs ps qs a b p v s e made room none =
+    qs ≡ ps ++ p ∷ [] → (predicate p).functions_before ≡ length (declarations v).functions → length (declarations v).predicates < 65535 → predicate_refusal (declarations v) (predicate p) ≡ None → IsSignature (fs, qs) a b
+is_signature-predicate fs ps qs a b p v s e made after room none =
+    let next : (predicate p).functions_before ≡ length (functions fs) = subst (λ v. (predicate p).functions_before ≡ length (declarations v).functions) (sym e) after in
     let small : length (predicates ps) < 65535 = subst (λ v. length (declarations v).predicates < 65535) (sym e) room in
     let free : predicate_refusal (declarations (fs, ps)) (predicate p) ≡ None = subst (λ v. predicate_refusal (declarations v) (predicate p) ≡ None) (sym e) none in
     let is : predicates qs ≡ predicates ps ++ predicate p ∷ [] = ap predicates made ∙ map_push predicate ps p in
     record {
       declared = subst (λ l. AreDeclared (record { functions = functions fs; predicates = l })) (sym is)
-          (declared-with_predicate (declarations (fs, ps)) (predicate p) s.declared (omega arith) free);
+          (declared-with_predicate (declarations (fs, ps)) (predicate p) s.declared next (omega arith) free);
       first_name = s.first_name;
       second_name = s.second_name;
     }

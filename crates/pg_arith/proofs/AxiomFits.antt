@@ -1,17 +1,19 @@
 -- The axioms fit no variable.
 use Rattle.std.proofs.Common.{◌≡◌, ℕ, zero, suc, ◌+◌, ◌-◌, ◌<◌, ◌≤◌, List, [], ◌∷◌, ◌++◌, length, take, drop, true, Option, Some, None, refl, arith, ap, sym, ◌∙◌, subst, length-append}
-use Rattle.std.specs.Prelude.{slice_get, slice_index_or, option_map}
+use Rattle.std.specs.Prelude.{slice_get, slice_index_or, option_map, codes}
 use Rattle.std.proofs.lemmas.Bool.{and_parts, and_from, lt-ltb, eq-eqb}
+use Rattle.std.specs.List.{All}
+use Rattle.std.proofs.lemmas.List.Elements.{All-append}
 use Rattle.std.proofs.lemmas.List.{take-append-drop}
 use Rattle.std.proofs.lemmas.Option.{slice_get-map}
 use Rattle.pg_logic.specs.Tree.{Tm, free, bound, nought, succ, app, args_of, Fm, kept_bound, substituted, substituted_free}
 use Rattle.pg_logic.specs.Signature.{Function, recursive, constant, Signature, function_arity, takes, count, fits_term, fits_terms, fits, IsDeclared}
 use Rattle.pg_logic.specs.Truth.{IsTrueOf}
-use Rattle.pg_logic.specs.Axioms.{quantified, binders, zero_axiom, succ_axiom, constant_axiom, Axiom, equations, equations_from, axioms}
-use Rattle.pg_logic.specs.Declarations.{Name, NamedFunction, by_recursion, by_term, Declarations, function_of, signature_of, AreDeclared}
+use Rattle.pg_logic.specs.Axioms.{quantified, binders, zero_axiom, succ_axiom, constant_axiom, succ_inj, zero_ne_succ, Axiom, named, equations, equations_from, axioms}
+use Rattle.pg_logic.specs.Declarations.{Name, NamedFunction, by_recursion, by_term, Declarations, function_of, signature_of, HasParameters, AreDeclared}
 use Rattle.pg_logic.proofs.Fitting.{Lands, fits_term-mapped}
 use Rattle.pg_logic.proofs.Declaring.{fits_term-more}
-use Rattle.pg_logic.proofs.AxiomTruth.{true-axiom}
+use Rattle.pg_logic.proofs.AxiomTruth.{all_at, All-one, All-two, all_equations, true-axiom}
 
 count-args_of : (ts : List Tm) → count (args_of ts) ≡ length ts
 count-args_of [] = refl
@@ -105,52 +107,33 @@ constant_axiom-fits : (s : Signature) → IsDeclared s → (k : ℕ) (body : Tm)
 constant_axiom-fits s d k body is =
     and_from _ _ (term-called s.functions 0 0 k (constant body) [] is refl refl) (term-of_first s.functions k 0 0 body (d.functions k (constant body) is))
 
--- a fact of each element
-abbrev Each : (Axiom → Type 0) → List Axiom → Type 0
-Each P [] = Unit {0}
-Each P (x ∷ xs) = P x × Each P xs
-
-each_append : (P : Axiom → Type 0) (xs ys : List Axiom) → Each P xs → Each P ys → Each P (xs ++ ys)
-each_append P [] ys h g = g
-each_append P (x ∷ xs) ys h g = (h.0, each_append P xs ys h.1 g)
-
-each_at : (P : Axiom → Type 0) (xs : List Axiom) (i : ℕ) (x : Axiom) → Each P xs → slice_get xs i ≡ Some x → P x
-each_at P [] i x h e = absurd (cc)
-each_at P (y ∷ ys) zero x h e = let is : y ≡ x = cc in subst P is h.0
-each_at P (y ∷ ys) (suc i) x h e = each_at P ys i x h.1 e
-
-each_equation : (P : Axiom → Type 0) (k : ℕ) (fs : List NamedFunction) → ((j : ℕ) (f : NamedFunction) → slice_get fs j ≡ Some f → Each P (equations (k + j) f)) → Each P (equations_from k fs)
-each_equation P k [] h = tt
-each_equation P k (f ∷ fs) h =
-    let at : k + 0 ≡ k = omega arith in
-    each_append P (equations k f) (equations_from (k + 1) fs) (subst (λ k. Each P (equations k f)) at (h 0 f refl))
-    (each_equation P (k + 1) fs (λ j g e. let move : k + suc j ≡ k + 1 + j = omega arith in subst (λ k. Each P (equations k g)) move (h (suc j) g e)))
-
 -- what an axiom says fits no variable
 abbrev IsClosedAxiom : Signature → Axiom → Type 0
 IsClosedAxiom s x = fits s 0 0 x.says ≡ true
 
-closed_equations : (d : Declarations) → AreDeclared d → (k : ℕ) (f : NamedFunction) → slice_get d.functions k ≡ Some f → Each (IsClosedAxiom (signature_of d)) (equations k f)
+closed_equations : (d : Declarations) → AreDeclared d → (k : ℕ) (f : NamedFunction) → slice_get d.functions k ≡ Some f → All (IsClosedAxiom (signature_of d)) (equations k f)
 closed_equations d a k (by_recursion name n params base step zero_name succ_name) e =
     let s = signature_of d in
     let is : slice_get s.functions k ≡ Some (recursive n base step) = slice_get-map function_of d.functions k ∙ ap (option_map function_of) e in
     let over = a.declared.functions k (recursive n base step) is in
-    let named = (a.parameters k (by_recursion name n params base step zero_name succ_name) e).0 in (
-      zero_axiom-fits s a.declared k n base step params is named.1 named.0 over.1,
-      (succ_axiom-fits s a.declared k n base step params is named.1 named.0 over.2, tt),
-    )
+    let named = all_at HasParameters d.functions k (by_recursion name n params base step zero_name succ_name) a.parameters e in
+    All-two (IsClosedAxiom s) _ _ (zero_axiom-fits s a.declared k n base step params is named.1 named.0 over.1) (succ_axiom-fits s a.declared k n base step params is named.1 named.0 over.2)
 closed_equations d a k (by_term name body equation_name) e =
     let s = signature_of d in
     let is : slice_get s.functions k ≡ Some (constant body) = slice_get-map function_of d.functions k ∙ ap (option_map function_of) e in
-    (constant_axiom-fits s a.declared k body is, tt)
+    All-one (IsClosedAxiom s) _ (constant_axiom-fits s a.declared k body is)
 
 -- each axiom fits no variable
 pub closed-axiom : (d : Declarations) → AreDeclared d → (id : ℕ) (x : Axiom) → slice_get (axioms d) id ≡ Some x → fits (signature_of d) 0 0 x.says ≡ true
 closed-axiom d a id x e =
     let s = signature_of d in
-    let first : (j : ℕ) (f : NamedFunction) → slice_get d.functions j ≡ Some f → Each (IsClosedAxiom s) (equations (0 + j) f) =
-    λ j f e. let at : j ≡ 0 + j = omega arith in subst (λ k. Each (IsClosedAxiom s) (equations k f)) at (closed_equations d a j f e) in
-    each_at (IsClosedAxiom s) (axioms d) id x (refl, (refl, each_equation (IsClosedAxiom s) 0 d.functions first)) e
+    let first : (j : ℕ) (f : NamedFunction) → slice_get d.functions j ≡ Some f → All (IsClosedAxiom s) (equations (0 + j) f) =
+    λ j f e. let at : j ≡ 0 + j = omega arith in subst (λ k. All (IsClosedAxiom s) (equations k f)) at (closed_equations d a j f e) in
+    let inj = named (codes "succ_inj") succ_inj in
+    let ne = named (codes "zero_ne_succ") zero_ne_succ in
+    let rest = All-append (IsClosedAxiom s) (inj ∷ ne ∷ []) (equations_from 0 d.functions)
+    (All-two (IsClosedAxiom s) inj ne refl refl) (all_equations (IsClosedAxiom s) 0 d.functions first) in
+    all_at (IsClosedAxiom s) (axioms d) id x rest e
 
 -- the same of what an axiom says
 pub closed-says : (d : Declarations) → AreDeclared d → (id : ℕ) (a : Fm) → option_map (λ x. x.says) (slice_get (axioms d) id) ≡ Some a → fits (signature_of d) 0 0 a ≡ true

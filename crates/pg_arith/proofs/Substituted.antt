@@ -12,7 +12,7 @@ use Rattle.pg_logic.proofs.Truths.{Follows, truth-mapped, truth-agrees}
 
 -- a term in which no bound variable is loose has its value whatever these are
 mutual
-  value-tight : (of : Functions) (fr bd bd' : List ℕ) (t : Tm) → is_tight 0 t ≡ true → value of fr bd t ≡ value of fr bd' t
+  pub value-tight : (of : Functions) (fr bd bd' : List ℕ) (t : Tm) → is_tight 0 t ≡ true → value of fr bd t ≡ value of fr bd' t
   value-tight of fr bd bd' (free i) h = refl
   value-tight of fr bd bd' (bound i) h = let lt = ltb-true i 0 h in absurd (omega arith)
   value-tight of fr bd bd' nought h = refl

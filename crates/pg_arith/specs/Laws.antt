@@ -1,9 +1,9 @@
 -- Laws of truth, of every signature.
 use Rattle.std.specs.Prelude.{ℕ, ◌≡◌, ◌↔◌, true, List, [], ◌∷◌, ◌++◌, length, map, Some, slice_get}
-use Rattle.pg_logic.specs.Tree.{Tm, args_of, Fm, opened_formula, substituted_formula, are_tight}
+use Rattle.pg_logic.specs.Tree.{Tm, args_of, Fm, opened_formula, substituted_formula, is_tight, are_tight}
 use Rattle.pg_logic.specs.Axioms.{Axiom, axioms}
 use Rattle.pg_logic.specs.Declarations.{Declarations, AreDeclared, signature_of}
-use Rattle.pg_logic.specs.Signature.{Signature, fits, fits_term}
+use Rattle.pg_logic.specs.Signature.{Signature, fits}
 use Rattle.pg_logic.specs.Value.{value, functions_of}
 use Rattle.pg_logic.specs.Truth.{IsTrueIn, IsTrueOf, predicates_of}
 
@@ -11,10 +11,10 @@ use Rattle.pg_logic.specs.Truth.{IsTrueIn, IsTrueOf, predicates_of}
 abbrev pub TrueAt : Signature → List ℕ → List ℕ → Fm → Type 0
 TrueAt s fr bd a = IsTrueIn (functions_of s.functions) (predicates_of (functions_of s.functions) s.predicates) fr bd a
 
--- a formula opened by a term is true where the body is, with the term's value
+-- a body opened by a term, which has no loose bound variable, is true where the body is, with the term's value for the innermost of its loose bound variables
 abbrev pub OpeningLaw : Type 0
-OpeningLaw = (s : Signature) (n : ℕ) (fr : List ℕ) (t : Tm) (a : Fm) → fits_term s.functions n 0 t ≡ true → fits s n 1 a ≡ true →
-    TrueAt s fr [] (opened_formula t a) ↔ TrueAt s fr (value (functions_of s.functions) fr [] t ∷ []) a
+OpeningLaw = (s : Signature) (fr bd : List ℕ) (t : Tm) (a : Fm) (n m : ℕ) → is_tight 0 t ≡ true → fits s n m a ≡ true →
+    TrueAt s fr bd (opened_formula t a) ↔ TrueAt s fr (value (functions_of s.functions) fr [] t ∷ bd) a
 
 -- what is not false is true
 abbrev pub ClassicalLaw : Type 0

@@ -12,7 +12,7 @@ function (Recursive r) = by_recursion r.name r.arity r.params (term r.base) (ter
 function (Constant c) = by_term c.name (term c.body) c.equation_name
 
 abbrev pub predicate : Predicate → NamedPredicate
-predicate p = record { name = p.name; arity = p.arity; body = formula p.body }
+predicate p = record { name = p.name; arity = p.arity; functions_before = p.functions_before; body = formula p.body }
 
 abbrev pub functions : List Function → List NamedFunction
 functions fs = map function fs

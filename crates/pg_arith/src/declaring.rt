@@ -18,6 +18,9 @@ use sqlite_items::{Boxed, Items};
 use std::alloc::{AllocError, Global};
 use thiserror::Error;
 
+/// A function or a predicate has at most so many arguments.
+const ARITY_LIMIT: u16 = 4;
+
 /// Why a declaration is refused: the first of these causes that holds.
 #[derive(Clone, Copy, Debug, PartialEq, Eq, Error)]
 pub enum DeclareFault {
@@ -27,7 +30,7 @@ pub enum DeclareFault {
     /// A function or predicate of this number is not declared before, or has another arity.
     #[error("number {id} is not declared before, or has another arity")]
     UsesLater { id: u16 },
-    /// There are more than 4 arguments: `n`.
+    /// There are more arguments than `ARITY_LIMIT`: `n`.
     #[error("an arity of {n} is over the limit of 4")]
     ArityOver { n: u16 },
     /// A free variable besides those named, or a bound one without a binder, has this number.
@@ -47,7 +50,7 @@ impl From<AllocError> for DeclareFault {
 }
 
 /// The first cause that holds: a name is taken, a number is used before it is declared, the arity
-/// is over 4, a variable is loose.
+/// is over the limit, a variable is loose.
 fn refusal_by(
     taken: bool,
     later: Option<u16>,
@@ -62,7 +65,7 @@ fn refusal_by(
     if let Some(id) = later {
         return Some(DeclareFault::UsesLater { id });
     }
-    if arity > 4 {
+    if arity > ARITY_LIMIT {
         return Some(DeclareFault::ArityOver { n: arity });
     }
     match astray {
@@ -154,6 +157,7 @@ impl Signature {
 
     /// Puts one more predicate at the end, which nothing refuses.
     fn add_predicate(&mut self, p: Predicate) -> Result<u16, AllocError>
+        requires next { (predicate p).functions_before ≡ length (declarations self.old).functions }
         requires room { length (declarations self.old).predicates < 65535 }
         requires no_refusal { logic.predicate_refusal (declarations self.old) (predicate p) ≡ None }
         ensures ok { IfOk result (logic.AddsPredicate (declarations self.old) (declarations self.new) (predicate p)) }
@@ -254,13 +258,18 @@ impl Signature {
     ) -> Result<u16, DeclareFault>
         requires room { length (declarations self.old).predicates < 65535 }
         ensures ok { IfOk result (logic.AddsPredicate (declarations self.old) (declarations self.new)
-            (record { name = name; arity = arity; body = formula body })) }
+            (logic.next_predicate (declarations self.old) name arity (formula body))) }
         ensures refused { IfErr result (IsFaultOf (logic.predicate_refusal (declarations self.old)
-            (record { name = name; arity = arity; body = formula body }))) }
+            (logic.next_predicate (declarations self.old) name arity (formula body)))) }
         ensures kept { OnErr result (self.new ≡ self.old) }
     {
         let body = Boxed::new(alloc, body)?;
-        let declared = Predicate { name, arity, body };
+        let declared = Predicate {
+            name,
+            arity,
+            functions_before: self.function_count(),
+            body,
+        };
         match self.predicate_refusal(&declared) {
             Some(fault) => Err(fault),
             None => Ok(self.add_predicate(declared)?),

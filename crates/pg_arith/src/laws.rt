@@ -2,9 +2,9 @@
 
 ghost use Rattle.pg_arith.specs.Laws.{AxiomLaw, ClassicalLaw, LongerLaw, OpeningLaw, SubstitutedLaw};
 
-/// A body opened by a term is true where the body itself is, with the term's value for its loose
-/// bound variable. The term fits some number of free variables and has no loose bound one. The body
-/// fits as many free variables, and has no loose bound one but `Bound(0)` at its root.
+/// A body opened by a term is true where the body itself is, with the term's value for the loose
+/// bound variable that is 0 at its root, whatever the numbers for the others. The term has no loose
+/// bound variable; the body fits some number of free and of loose bound ones.
 pub fn opening_law()
     ensures { OpeningLaw }
 {}

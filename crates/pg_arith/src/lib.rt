@@ -10,8 +10,6 @@ pub mod laws;
 mod lookups;
 mod postfix;
 mod signature;
-#[cfg(test)]
-mod tests;
 mod values;
 
 pub use declaring::DeclareFault;

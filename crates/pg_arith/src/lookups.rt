@@ -186,6 +186,7 @@ fn copied_predicates(alloc: Global, declared: &[Predicate]) -> Result<Items<Pred
         copies.push(Predicate {
             name: p.name.copied(alloc)?,
             arity: p.arity,
+            functions_before: p.functions_before,
             body,
         })?;
     }

@@ -53,6 +53,8 @@ pub struct Predicate {
     pub name: Name,
     /// How many arguments it takes.
     pub arity: u16,
+    /// How many functions and constants are declared before it: its body is over these.
+    pub functions_before: u16,
     /// What it says of its arguments.
     pub body: Boxed<Formula>,
 }

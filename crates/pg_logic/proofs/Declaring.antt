@@ -1,11 +1,16 @@
 -- One more declaration, where nothing refuses it.
-use Rattle.std.proofs.Common.{◌≡◌, ℕ, zero, suc, ◌+◌, ◌-◌, ◌<◌, ◌≤◌, ◌^◌, List, [], ◌∷◌, ◌++◌, map, length, take, Bool, true, false, Option, Some, None, refl, arith, ap, sym, ◌∙◌, subst, append_assoc, append-nil}
+use Rattle.std.proofs.Common.{◌≡◌, ℕ, zero, suc, ◌+◌, ◌-◌, ◌<◌, ◌≤◌, ◌^◌, List, [], ◌∷◌, ◌++◌, map, length, take, get_or, Bool, true, false, Option, Some, None, refl, arith, ap, sym, ◌∙◌, subst, append_assoc, append-nil}
 use Rattle.std.specs.Prelude.{slice_get, nat_lt, option_map, flat_map, codes, if◌then◌else◌}
 use Rattle.std.proofs.lemmas.Bool.{and_parts, and_from, false≢true, ltb-false}
 use Rattle.std.proofs.lemmas.Grind.{flat_map-append}
+use Rattle.std.specs.List.{All}
+use Rattle.std.proofs.lemmas.List.{take-append-le, length-map}
+use Rattle.std.proofs.lemmas.List.Elements.{All-push}
+use Rattle.std.proofs.lemmas.Option.{slice_get-get_or}
+use Rattle.std.proofs.Math.Seq.{take-length}
 use Rattle.pg_logic.specs.Tree.{Tm, free, bound, nought, succ, app, Tms, none, arg, Fm, falsum, eq, pred, and, or, imp, all, ex}
-use Rattle.pg_logic.specs.Signature.{Function, Predicate, Signature, takes, holds_of, count, fits_term, fits_terms, fits, FitsFunction, IsDeclared}
-use Rattle.pg_logic.specs.Declarations.{NamedFunction, by_recursion, by_term, NamedPredicate, Declarations, names_in, names_of, function_of, predicate_of, signature_of, arity_of, clash, first, unless_true, undeclared, undeclared_all, undeclared_in, loose, loose_all, loose_in, arity_over, loose_variable, refusal_by, function_refusal, predicate_refusal, HasParameters, AreDeclared, with_function, with_predicate}
+use Rattle.pg_logic.specs.Signature.{Function, Predicate, Signature, takes, holds_of, count, fits_term, fits_terms, fits, FitsFunction, StandsAfter, IsDeclared}
+use Rattle.pg_logic.specs.Declarations.{NamedFunction, by_recursion, by_term, NamedPredicate, Declarations, names_in, names_of, function_of, predicate_of, signature_of, arity_of, arity_limit, clash, first, unless_true, undeclared, undeclared_all, undeclared_in, loose, loose_all, loose_in, arity_over, loose_variable, refusal_by, function_refusal, predicate_refusal, HasParameters, AreDeclared, with_function, with_predicate}
 use Rattle.pg_logic.proofs.Names.{differ-between}
 
 -- two lists that are empty together
@@ -110,23 +115,41 @@ each-push P [] x each last (suc k) y e = absurd (cc)
 each-push P (z ∷ zs) x each last zero y e = each zero y e
 each-push P (z ∷ zs) x each last (suc k) y e = each-push (λ l. P (z ∷ l)) zs x (λ k. each (suc k)) last k y e
 
+length_push : {A : Type 0} → (xs : List A) (x : A) → length (xs ++ x ∷ []) ≡ length xs + 1
+length_push [] x = refl
+length_push (y ∷ ys) x = omega (arith, length_push ys x)
+
 pub declared-function : (s : Signature) (f : Function) → IsDeclared s → FitsFunction s.functions f → IsDeclared (extended s (f ∷ []))
 declared-function s f d h = record {
   functions = each-push FitsFunction s.functions f d.functions h;
-  predicates = λ k p e. fits-more (record { functions = s.functions; predicates = take k s.predicates }) (f ∷ []) p.arity 0 p.body (d.predicates k p e);
+  predicates = λ k p e.
+      subst (λ fs. fits (record { functions = fs; predicates = take k s.predicates }) p.arity 0 p.body ≡ true)
+      (sym (take-append-le p.functions_before s.functions (f ∷ []) (d.order k p e).0)) (d.predicates k p e);
+  order = λ k p e. let o = d.order k p e in (omega (arith, o.0, length_push s.functions f), o.1);
 }
 
-pub declared-predicate : (s : Signature) (p : Predicate) → IsDeclared s → fits s p.arity 0 p.body ≡ true → IsDeclared (record { functions = s.functions; predicates = s.predicates ++ p ∷ [] })
-declared-predicate s p d h = record {
-  functions = d.functions;
-  predicates = each-push (λ ps p. fits (record { functions = s.functions; predicates = ps }) p.arity 0 p.body ≡ true) s.predicates p d.predicates h;
-}
+-- what holds of each by its place holds of all
+all-from : {A : Type 0} (P : A → Type 0) (xs : List A) → ((k : ℕ) (x : A) → slice_get xs k ≡ Some x → P x) → All P xs
+all-from P xs h = λ k d lt. h k (get_or xs k d) (slice_get-get_or xs k d lt)
+
+pub declared-predicate : (s : Signature) (p : Predicate) → IsDeclared s → p.functions_before ≡ length s.functions → fits s p.arity 0 p.body ≡ true →
+    IsDeclared (record { functions = s.functions; predicates = s.predicates ++ p ∷ [] })
+declared-predicate s p d next h =
+    let whole : take p.functions_before s.functions ≡ s.functions = ap (λ n. take n s.functions) next ∙ take-length s.functions in
+    let earlier : All (λ q. q.functions_before ≤ p.functions_before) s.predicates =
+    all-from (λ q. q.functions_before ≤ p.functions_before) s.predicates (λ k q e. omega (arith, (d.order k q e).0)) in
+    record {
+      functions = d.functions;
+      predicates = each-push (λ ps p. fits (record { functions = take p.functions_before s.functions; predicates = ps }) p.arity 0 p.body ≡ true) s.predicates p d.predicates
+          (subst (λ fs. fits (record { functions = fs; predicates = s.predicates }) p.arity 0 p.body ≡ true) (sym whole) h);
+      order = each-push (StandsAfter s.functions) s.predicates p d.order (omega arith, earlier);
+    }
 
 -- nothing refuses
 record Nothing (taken : Bool) (later : Option ℕ) (arity : ℕ) (astray : Option ℕ) : Type 0 where
   free_names : taken ≡ false
   none_later : later ≡ None
-  few : arity ≤ 4
+  few : arity ≤ arity_limit
   none_astray : astray ≡ None
 
 few_of : (b : Bool) (arity : ℕ) (astray : Option ℕ) → (if b then Some (arity_over arity) else option_map loose_variable astray) ≡ None → (b ≡ false) × (astray ≡ None)
@@ -138,15 +161,15 @@ nothing : (taken : Bool) (later : Option ℕ) (arity : ℕ) (astray : Option ℕ
 nothing true later arity astray e = absurd (cc)
 nothing false (Some k) arity astray e = absurd (cc)
 nothing false None arity astray e =
-    let p = few_of (nat_lt 4 arity) arity astray e in
-    record { free_names = refl; none_later = refl; few = ltb-false 4 arity p.0; none_astray = p.1 }
+    let p = few_of (nat_lt arity_limit arity) arity astray e in
+    record { free_names = refl; none_later = refl; few = ltb-false arity_limit arity p.0; none_astray = p.1 }
 
 pub map_push : {A B : Type 0} → (f : A → B) (xs : List A) (x : A) → map f (xs ++ x ∷ []) ≡ map f xs ++ f x ∷ []
 map_push f [] x = refl
 map_push f (y ∷ ys) x = ap (λ l. f y ∷ l) (map_push f ys x)
 
 -- a function that nothing refuses is over those before it
-fits_function : (d : Declarations) (f : NamedFunction) → HasParameters f → function_refusal d f ≡ None → FitsFunction (signature_of d).functions (function_of f) × (arity_of f ≤ 4)
+fits_function : (d : Declarations) (f : NamedFunction) → HasParameters f → function_refusal d f ≡ None → FitsFunction (signature_of d).functions (function_of f) × (arity_of f ≤ arity_limit)
 fits_function d (by_recursion name n params base step zero_name succ_name) named e =
     let fs = (signature_of d).functions in
     let p = nothing
@@ -205,10 +228,6 @@ names_with_predicate d p e h =
     subst (λ l. clash [] l ≡ false) (sym made)
     (differ-between (front ++ middle) (p.name ∷ []) after (subst (λ l. clash [] l ≡ false) before e) (subst (λ l. clash l (p.name ∷ []) ≡ false) before h))
 
-length_push : {A : Type 0} → (xs : List A) (x : A) → length (xs ++ x ∷ []) ≡ length xs + 1
-length_push [] x = refl
-length_push (y ∷ ys) x = omega (arith, length_push ys x)
-
 pub declared-with_function : (d : Declarations) (f : NamedFunction) → AreDeclared d → HasParameters f → length d.functions + 1 < 2 ^ 16 → function_refusal d f ≡ None → AreDeclared (with_function d f)
 declared-with_function d f a named room e =
     let p = fits_function d f named e in
@@ -216,23 +235,26 @@ declared-with_function d f a named room e =
       declared = subst (λ fs. IsDeclared (record { functions = fs; predicates = (signature_of d).predicates })) (sym (map_push function_of d.functions f))
           (declared-function (signature_of d) (function_of f) a.declared p.0);
       names_differ = names_with_function d f a.names_differ (fresh_names d f e);
-      parameters = each-push (λ _ f. HasParameters f × (arity_of f ≤ 4)) d.functions f a.parameters (named, p.1);
+      parameters = All-push HasParameters d.functions f a.parameters named;
+      function_arities = All-push (λ f. arity_of f ≤ arity_limit) d.functions f a.function_arities p.1;
       predicate_arities = a.predicate_arities;
       function_room = omega (arith, length_push d.functions f);
       predicate_room = a.predicate_room;
     }
 
-pub declared-with_predicate : (d : Declarations) (p : NamedPredicate) → AreDeclared d → length d.predicates + 1 < 2 ^ 16 → predicate_refusal d p ≡ None → AreDeclared (with_predicate d p)
-declared-with_predicate d p a room e =
+pub declared-with_predicate : (d : Declarations) (p : NamedPredicate) → AreDeclared d → p.functions_before ≡ length d.functions → length d.predicates + 1 < 2 ^ 16 → predicate_refusal d p ≡ None →
+    AreDeclared (with_predicate d p)
+declared-with_predicate d p a next room e =
     let s = signature_of d in
     let q = nothing (clash (names_of d) (p.name ∷ [])) (first (undeclared_in s p.body)) p.arity (first (loose_in p.arity 0 p.body)) e in
     let body = fits-from s p.arity 0 p.body (first-none (undeclared_in s p.body) q.none_later) (first-none (loose_in p.arity 0 p.body) q.none_astray) in
     record {
       declared = subst (λ ps. IsDeclared (record { functions = s.functions; predicates = ps })) (sym (map_push predicate_of d.predicates p))
-          (declared-predicate s (predicate_of p) a.declared body);
+          (declared-predicate s (predicate_of p) a.declared (next ∙ sym (length-map d.functions function_of)) body);
       names_differ = names_with_predicate d p a.names_differ q.free_names;
       parameters = a.parameters;
-      predicate_arities = each-push (λ _ p. p.arity ≤ 4) d.predicates p a.predicate_arities q.few;
+      function_arities = a.function_arities;
+      predicate_arities = All-push (λ p. p.arity ≤ arity_limit) d.predicates p a.predicate_arities q.few;
       function_room = a.function_room;
       predicate_room = omega (arith, length_push d.predicates p);
     }

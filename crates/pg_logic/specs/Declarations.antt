@@ -1,6 +1,6 @@
 -- Declarations of functions and predicates with their names, and when one more is refused.
 use Rattle.std.specs.Prelude.{ℕ, ◌+◌, ◌-◌, ◌≡◌, ◌<◌, ◌≤◌, ◌^◌, Bool, true, false, ◌||◌, List, [], ◌∷◌, ◌++◌, map, flat_map, length, nat_lt, Option, Some, None, option_map, slice_get, if◌then◌else◌, codes}
-use Rattle.std.specs.List.{list_any}
+use Rattle.std.specs.List.{list_any, All}
 use Rattle.std.specs.Str.{bytes_eq}
 use Rattle.pg_logic.specs.Tree.{Tm, free, bound, nought, succ, app, Tms, none, arg, Fm, falsum, eq, pred, and, or, imp, all, ex}
 use Rattle.pg_logic.specs.Signature.{Function, recursive, constant, Predicate, Signature, IsDeclared, takes, holds_of, count}
@@ -14,9 +14,11 @@ pub data NamedFunction : Type 0 where
   by_recursion : (name : Name) (arity : ℕ) (params : List Name) (base step : Tm) (zero_name succ_name : Name) → NamedFunction
   by_term : (name : Name) (body : Tm) (equation_name : Name) → NamedFunction
 
+-- a predicate, which is declared after so many functions
 pub record NamedPredicate : Type 0 where
   pub name : Name
   pub arity : ℕ
+  pub functions_before : ℕ
   pub body : Fm
 
 -- what is declared: the functions and the predicates, each in order of declaration
@@ -38,10 +40,14 @@ function_of (by_recursion name n params base step zero_name succ_name) = recursi
 function_of (by_term name body equation_name) = constant body
 
 abbrev pub predicate_of : NamedPredicate → Predicate
-predicate_of p = record { arity = p.arity; body = p.body }
+predicate_of p = record { arity = p.arity; functions_before = p.functions_before; body = p.body }
 
 abbrev pub signature_of : Declarations → Signature
 signature_of d = record { functions = map function_of d.functions; predicates = map predicate_of d.predicates }
+
+-- the predicate that is declared next: it stands behind all functions
+abbrev pub next_predicate : Declarations → Name → ℕ → Fm → NamedPredicate
+next_predicate d name n body = record { name = name; arity = n; functions_before = length d.functions; body = body }
 
 -- one more function, one more predicate
 abbrev pub with_function : Declarations → NamedFunction → Declarations
@@ -117,7 +123,11 @@ loose_in n d (imp a b) = loose_in n d a ++ loose_in n d b
 loose_in n d (all x a) = loose_in n (d + 1) a
 loose_in n d (ex x a) = loose_in n (d + 1) a
 
--- why a declaration is refused: a name is taken; a number is used before it is declared, or with another arity; an arity is over 4; a variable is loose
+-- functions and predicates have at most so many arguments
+abbrev pub arity_limit : ℕ
+arity_limit = 4
+
+-- why a declaration is refused: a name is taken; a number is used before it is declared, or with another arity; an arity is over the limit; a variable is loose
 pub data Refusal : Type 0 where
   name_taken : Refusal
   uses_later : (id : ℕ) → Refusal
@@ -132,7 +142,7 @@ first (x ∷ xs) = Some x
 abbrev pub refusal_by : Bool → Option ℕ → ℕ → Option ℕ → Option Refusal
 refusal_by true later arity astray = Some name_taken
 refusal_by false (Some k) arity astray = Some (uses_later k)
-refusal_by false None arity astray = if nat_lt 4 arity then Some (arity_over arity) else option_map loose_variable astray
+refusal_by false None arity astray = if nat_lt arity_limit arity then Some (arity_over arity) else option_map loose_variable astray
 
 -- why one more function is refused. Its base is over the parameters but the last, its step over all of them and the value at the predecessor; the base comes before the step
 abbrev pub function_refusal : Declarations → NamedFunction → Option Refusal
@@ -154,12 +164,13 @@ abbrev pub HasParameters : NamedFunction → Type 0
 HasParameters (by_recursion name n params base step zero_name succ_name) = (0 < n) × (length params ≡ n)
 HasParameters (by_term name body equation_name) = Unit {0}
 
--- what holds of all declarations: each is over those before it, all names differ, each parameter has a name, no arity is over 4, and the numbers fit 16 bits
+-- what holds of all declarations: each is over those before it, all names differ, each parameter has a name, no arity is over the limit, and the numbers fit 16 bits
 pub record AreDeclared (d : Declarations) : Type 0 where
   pub declared : IsDeclared (signature_of d)
   pub names_differ : clash [] (names_of d) ≡ false
-  pub parameters : (k : ℕ) (f : NamedFunction) → slice_get d.functions k ≡ Some f → HasParameters f × (arity_of f ≤ 4)
-  pub predicate_arities : (k : ℕ) (p : NamedPredicate) → slice_get d.predicates k ≡ Some p → p.arity ≤ 4
+  pub parameters : All HasParameters d.functions
+  pub function_arities : All (λ f. arity_of f ≤ arity_limit) d.functions
+  pub predicate_arities : All (λ p. p.arity ≤ arity_limit) d.predicates
   pub function_room : length d.functions < 2 ^ 16
   pub predicate_room : length d.predicates < 2 ^ 16
 

@@ -14,7 +14,7 @@ abbrev function : List ℕ → ℕ → NamedFunction
 function name n = by_recursion name n [] nought nought name name
 
 abbrev predicate : List ℕ → ℕ → NamedPredicate
-predicate name n = record { name = name; arity = n; body = falsum }
+predicate name n = record { name = name; arity = n; functions_before = 0; body = falsum }
 
 abbrev declared : Declarations
 declared = record {

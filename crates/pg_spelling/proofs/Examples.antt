@@ -4,11 +4,12 @@ use Rattle.std.proofs.Common.{◌≡◌, ℕ, zero, suc, ◌≤◌, List, [], �
 use Rattle.std.specs.Prelude.{true, Some, slice_get, take}
 use Rattle.std.specs.Str.{encode_utf8_all, all_scalars}
 use Rattle.std.proofs.lemmas.Str.{chars-encodes}
+use Rattle.std.proofs.lemmas.List.Elements.{All-nil, All-cons}
 use Rattle.pg_base.specs.declared.token.TokenKind.TheVariants as kind
 use Rattle.pg_base.specs.Layout.{IsToken}
 use Rattle.pg_logic.specs.Tree.{free, bound, nought, succ, app, none, arg, Fm, eq, pred, all, ex}
-use Rattle.pg_logic.specs.Declarations.{Name, by_recursion, by_term, Declarations, AreDeclared, HasParameters, arity_of, signature_of}
-use Rattle.pg_logic.specs.Signature.{fits, FitsFunction}
+use Rattle.pg_logic.specs.Declarations.{Name, by_recursion, by_term, Declarations, AreDeclared, HasParameters, arity_of, arity_limit, signature_of}
+use Rattle.pg_logic.specs.Signature.{fits, FitsFunction, before_predicate, StandsAfter}
 use Rattle.pg_grammar.specs.Printing.{shape_of}
 use Rattle.pg_meaning.specs.Scope.{outermost}
 use Rattle.pg_spelling.specs.Named.{named_formula}
@@ -61,10 +62,12 @@ sums-declared = record {
   declared = record {
     functions = of-one (λ k f. FitsFunction (take k (signature_of sums).functions) f) _ (omega arith, refl, refl);
     predicates = of-none _;
+    order = of-none _;
   };
   names_differ = refl;
-  parameters = of-one (λ _ f. HasParameters f × (arity_of f ≤ 4)) _ ((omega arith, refl), omega arith);
-  predicate_arities = of-none _;
+  parameters = All-cons HasParameters _ [] (omega arith, refl) (All-nil HasParameters);
+  function_arities = All-cons (λ f. arity_of f ≤ arity_limit) _ [] (omega arith) (All-nil (λ f. arity_of f ≤ arity_limit));
+  predicate_arities = All-nil (λ p. p.arity ≤ arity_limit);
   function_room = omega arith;
   predicate_room = omega arith;
 }
@@ -125,18 +128,20 @@ alpha-text = text-law (Some alpha ∷ []) sums equals_alpha alpha-writes
 abbrev pub orders : Declarations
 orders = record {
   functions = by_term (codes "1") (succ nought) (codes "one_eq") ∷ [];
-  predicates = record { name = 226 ∷ 137 ∷ 164 ∷ []; arity = 2; body = eq (free 0) (free 1) } ∷ [];
+  predicates = record { name = 226 ∷ 137 ∷ 164 ∷ []; arity = 2; functions_before = 1; body = eq (free 0) (free 1) } ∷ [];
 }
 
 pub orders-declared : AreDeclared orders
 orders-declared = record {
   declared = record {
     functions = of-one (λ k f. FitsFunction (take k (signature_of orders).functions) f) _ refl;
-    predicates = of-one (λ k p. fits (record { functions = (signature_of orders).functions; predicates = take k (signature_of orders).predicates }) p.arity 0 p.body ≡ true) _ refl;
+    predicates = of-one (λ k p. fits (before_predicate (signature_of orders) k p) p.arity 0 p.body ≡ true) _ refl;
+    order = of-one (λ k p. StandsAfter (signature_of orders).functions (take k (signature_of orders).predicates) p) _ (omega arith, All-nil (λ q. q.functions_before ≤ 1));
   };
   names_differ = refl;
-  parameters = of-one (λ _ f. HasParameters f × (arity_of f ≤ 4)) _ (tt, omega arith);
-  predicate_arities = of-one (λ _ p. p.arity ≤ 4) _ (omega arith);
+  parameters = All-cons HasParameters _ [] tt (All-nil HasParameters);
+  function_arities = All-cons (λ f. arity_of f ≤ arity_limit) _ [] (omega arith) (All-nil (λ f. arity_of f ≤ arity_limit));
+  predicate_arities = All-cons (λ p. p.arity ≤ arity_limit) _ [] (omega arith) (All-nil (λ p. p.arity ≤ arity_limit));
   function_room = omega arith;
   predicate_room = omega arith;
 }
@@ -175,10 +180,12 @@ raises-declared = record {
   declared = record {
     functions = of-one (λ k f. FitsFunction (take k (signature_of raises).functions) f) _ (omega arith, refl, refl);
     predicates = of-none _;
+    order = of-none _;
   };
   names_differ = refl;
-  parameters = of-one (λ _ f. HasParameters f × (arity_of f ≤ 4)) _ ((omega arith, refl), omega arith);
-  predicate_arities = of-none _;
+  parameters = All-cons HasParameters _ [] (omega arith, refl) (All-nil HasParameters);
+  function_arities = All-cons (λ f. arity_of f ≤ arity_limit) _ [] (omega arith) (All-nil (λ f. arity_of f ≤ arity_limit));
+  predicate_arities = All-nil (λ p. p.arity ≤ arity_limit);
   function_room = omega arith;
   predicate_room = omega arith;
 }
