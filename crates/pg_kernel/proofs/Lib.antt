@@ -1,3 +1,4 @@
+pub mod Accepted
 pub mod Admitted
 pub mod AxiomTheorems
 pub mod Axioms

@@ -10,7 +10,7 @@ use Rattle.std.proofs.lemmas.Map.Lookups.{exact_unsigned}
 use Rattle.std.proofs.lemmas.Map.Views.{btree_set_contains_iff}
 use Rattle.std.proofs.lemmas.Bool.{eq-eqb, or_left, or_right}
 use Rattle.pg_logic.specs.Kernel.{Pf, hyp, thm, andi, andl, andr, orl, orr, ore, impi, impe, fale, lem, alli, alle, exi, exe, reflexive, repl, ind, predi, prede}
-use Rattle.pg_logic.proofs.Sound.{EachNamed}
+use Rattle.pg_logic.proofs.Derived.{EachNamed}
 use Rattle.pg_kernel.specs.Names.{is_named, AreNames}
 
 abbrev pub Of : (ℕ → Type 0) → Pf → Type 0

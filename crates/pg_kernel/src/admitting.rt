@@ -75,28 +75,6 @@ impl Checked {
     }
 }
 
-/// The names of a proof that the kernel accepts, and none of one that it refuses.
-fn examined(
-    alloc: Global,
-    sig: &Signature,
-    theorems: &Theorems,
-    goal: &Formula,
-    p: &Proof,
-) -> Result<Option<Items<u32>>, AllocError>
-    requires { IsTrue (arith.fits (signature sig.now) 0 0 (formula goal.now)) }
-    ensures some { IfOk result (λ o. IfSome o (λ names. AreNames (proof p.now) names × Accepts (signature sig.now) (formulas theorems.now) (proof p.now) (formula goal.now))) }
-    ensures admitted { IfOk result (λ o. IfSome o (λ _. IsAdmitted (formula goal.now) (proof p.now))) }
-    ensures none { IfOk result (λ o. IfNone o (Accepts (signature sig.now) (formulas theorems.now) (proof p.now) (formula goal.now) → ⊥)) }
-    ensures sound { IfOk result (λ o. IfSome o (λ names. ((k : ℕ) → IsTrue (is_named k (proof p.now)) → IsTheorem (signature sig.now) (formulas theorems.now) k) → IsTrueOf (signature sig.now) [] (formula goal.now))) }
-{
-    sig.declared_law();
-    theorems.count_law();
-    match check(alloc, sig, theorems, 0, &[], p, goal)? {
-        Verdict::Accepted => Ok(Some(names_of(alloc, p)?)),
-        Verdict::Refused { .. } => Ok(None),
-    }
-}
-
 /// The goal with its proof, exactly where the kernel accepts this proof of it in the empty context,
 /// over the signature and the theorems. The goal fits 0 variables. Else the two are dropped. It
 /// fails only for want of memory.
@@ -130,4 +108,26 @@ fn boxed(
 {
     let proof = Boxed::new(alloc, proof)?;
     Ok((Boxed::new(alloc, goal)?, proof))
+}
+
+/// The names of a proof that the kernel accepts, and none of one that it refuses.
+fn examined(
+    alloc: Global,
+    sig: &Signature,
+    theorems: &Theorems,
+    goal: &Formula,
+    p: &Proof,
+) -> Result<Option<Items<u32>>, AllocError>
+    requires { IsTrue (arith.fits (signature sig.now) 0 0 (formula goal.now)) }
+    ensures some { IfOk result (λ o. IfSome o (λ names. AreNames (proof p.now) names × Accepts (signature sig.now) (formulas theorems.now) (proof p.now) (formula goal.now))) }
+    ensures admitted { IfOk result (λ o. IfSome o (λ _. IsAdmitted (formula goal.now) (proof p.now))) }
+    ensures none { IfOk result (λ o. IfNone o (Accepts (signature sig.now) (formulas theorems.now) (proof p.now) (formula goal.now) → ⊥)) }
+    ensures sound { IfOk result (λ o. IfSome o (λ names. ((k : ℕ) → IsTrue (is_named k (proof p.now)) → IsTheorem (signature sig.now) (formulas theorems.now) k) → IsTrueOf (signature sig.now) [] (formula goal.now))) }
+{
+    sig.declared_law();
+    theorems.count_law();
+    match check(alloc, sig, theorems, 0, &[], p, goal)? {
+        Verdict::Accepted => Ok(Some(names_of(alloc, p)?)),
+        Verdict::Refused { .. } => Ok(None),
+    }
 }

@@ -1,6 +1,7 @@
 //! The check of a proof against a goal.
 
 ghost use Rattle.std.specs.Prelude.{◌≡◌, ◌+◌, ◌-◌, ◌^◌, min, ℕ, if◌then◌else◌, slice_get, option_map, IfOk, IsTrue};
+ghost use Rattle.pg_logic.specs.Derivation.{Derives};
 ghost use Rattle.pg_logic.specs.Kernel as logic;
 ghost use Rattle.pg_logic.specs.Signature as arith;
 ghost use Rattle.pg_logic.specs.Sound.{AllFit, IsTheorem, Entails};
@@ -8,14 +9,14 @@ ghost use Rattle.pg_terms.specs.View.{formula, formulas};
 ghost use Rattle.pg_arith.specs.View.{signature};
 ghost use Rattle.pg_kernel.specs.Checks as checks;
 ghost use Rattle.pg_kernel.specs.Checks.{Gives};
-ghost use Rattle.pg_kernel.specs.Names.{is_named};
+ghost use Rattle.pg_kernel.specs.Names.{is_named, IsNamedTheorem};
 ghost use Rattle.pg_kernel.specs.Premises.{premise, pair, triple};
 ghost use Rattle.pg_kernel.specs.View.{proof};
 
 use crate::premise::{Context, Premise};
 use crate::proof::Proof;
 use crate::theorems::Theorems;
-use crate::{goals, rules};
+use crate::{goals, number, rules};
 use pg_arith::Signature;
 use pg_terms::Formula;
 use sqlite_items::{Items, at};
@@ -29,6 +30,205 @@ pub enum Verdict {
     /// The first node in preorder that does not, and its rule, 1 to 21. Nodes are counted from 0,
     /// and the count stays at the type's end.
     Refused { node: u32, rule: u8 },
+}
+
+/// Checks a proof of a goal in a context: `vars` variables and the hypotheses, which fit them as
+/// the goal does. The proof may name the theorems.
+///
+/// It is accepted exactly where each node meets its rule in the context that its parents give it
+/// ("Rules" in docs/LOGIC.md), and else the first node that does not is told. It fails only for
+/// want of memory.
+pub fn check(
+    alloc: Global,
+    sig: &Signature,
+    theorems: &Theorems,
+    vars: u32,
+    hyps: &[Formula],
+    p: &Proof,
+    goal: &Formula,
+) -> Result<Verdict, AllocError>
+    requires hyps { AllFit (signature sig.now) vars (formulas hyps.now) }
+    requires goal { IsTrue (arith.fits (signature sig.now) vars 0 (formula goal.now)) }
+    ensures exact { IfOk result (λ v. v ≡ checks.verdict_of (logic.fault_of (signature sig.now) (formulas theorems.now) (proof p.now) vars (formulas hyps.now) (formula goal.now) 0)) }
+    // what is accepted is derivable from the hypotheses and those theorems that the proof names
+    // ("Derivability" in docs/LOGIC.md)
+    ensures derives { IfOk result (λ v. v ≡ Verdict.Accepted → Derives (signature sig.now) (IsNamedTheorem (formulas theorems.now) (proof p.now)) vars (formulas hyps.now) (formula goal.now)) }
+    // what is accepted is true where the hypotheses are, and each theorem that the proof names fits
+    // no variable and is true ("Soundness" in docs/LOGIC.md)
+    ensures sound { IfOk result (λ v. v ≡ Verdict.Accepted → ((k : ℕ) → IsTrue (is_named k (proof p.now)) → IsTheorem (signature sig.now) (formulas theorems.now) k) → Entails (signature sig.now) vars (formulas hyps.now) (formula goal.now)) }
+{
+    sig.declared_law();
+    checked(alloc, sig, theorems, vars, hyps, p, goal)
+}
+
+/// Checks a proof from its root on, over a copy of the hypotheses to which those of the premises
+/// can be put.
+fn checked(
+    alloc: Global,
+    sig: &Signature,
+    theorems: &Theorems,
+    vars: u32,
+    hyps: &[Formula],
+    p: &Proof,
+    goal: &Formula,
+) -> Result<Verdict, AllocError>
+    ensures { IfOk result (λ v. v ≡ checks.verdict_of (logic.fault_of (signature sig.now) (formulas theorems.now) (proof p.now) vars (formulas hyps.now) (formula goal.now) 0)) }
+{
+    let mut held = Items::new(alloc);
+    for a in hyps {
+        held.push(a.copied(alloc)?)?;
+    }
+    let cx = Context {
+        alloc,
+        sig,
+        theorems: theorems.as_slice(),
+    };
+    let mut next = 0;
+    check_node(p, &cx, vars, &mut held, &mut next, goal)
+}
+
+/// Checks a proof of a goal in a context of `vars` variables and the hypotheses, node by node in
+/// preorder, up to the first refusal. `next` is the number of its root; where it is accepted, it is
+/// the number after its last node then. Afterwards the hypotheses are as before.
+#[cycle(check)]
+fn check_node(
+    p: &Proof,
+    cx: &Context<'_>,
+    vars: u32,
+    hyps: &mut Items<Formula>,
+    next: &mut u32,
+    goal: &Formula,
+) -> Result<Verdict, AllocError>
+    ensures checks { IfOk result (λ v. Gives (logic.fault_of (signature cx.now.sig.now) (formulas cx.now.theorems.now) (proof p.now) vars (formulas hyps.old) (formula goal.now)) (logic.proof_nodes (proof p.now)) next.old next.new v) }
+    ensures kept { IfOk result (λ _. hyps.new ≡ hyps.old) }
+{
+    let node = enter(next);
+    match p {
+        Proof::Hyp(i) => Ok(settled(node, is_at(hyps.as_slice(), *i, goal), number::HYP)),
+        Proof::Thm(i) => Ok(settled(node, is_at(cx.theorems, *i, goal), number::THM)),
+        Proof::Andi(p, q) => {
+            let premises = rules::andi(cx, vars, goal)?;
+            check_two(
+                p.get(),
+                q.get(),
+                cx,
+                hyps,
+                node,
+                next,
+                number::ANDI,
+                premises,
+            )
+        }
+        Proof::Andl(b, p) => {
+            let premises = rules::andl(cx, vars, b, goal)?;
+            check_one(p.get(), cx, hyps, node, next, number::ANDL, premises)
+        }
+        Proof::Andr(a, p) => {
+            let premises = rules::andr(cx, vars, a, goal)?;
+            check_one(p.get(), cx, hyps, node, next, number::ANDR, premises)
+        }
+        Proof::Orl(p) => {
+            let premises = rules::orl(cx, vars, goal)?;
+            check_one(p.get(), cx, hyps, node, next, number::ORL, premises)
+        }
+        Proof::Orr(p) => {
+            let premises = rules::orr(cx, vars, goal)?;
+            check_one(p.get(), cx, hyps, node, next, number::ORR, premises)
+        }
+        Proof::Ore(a, b, p, q, r) => {
+            let premises = rules::ore(cx, vars, a, b, goal)?;
+            check_three(
+                p.get(),
+                q.get(),
+                r.get(),
+                cx,
+                hyps,
+                node,
+                next,
+                number::ORE,
+                premises,
+            )
+        }
+        Proof::Impi(p) => {
+            let premises = rules::impi(cx, vars, goal)?;
+            check_one(p.get(), cx, hyps, node, next, number::IMPI, premises)
+        }
+        Proof::Impe(a, p, q) => {
+            let premises = rules::impe(cx, vars, a, goal)?;
+            check_two(
+                p.get(),
+                q.get(),
+                cx,
+                hyps,
+                node,
+                next,
+                number::IMPE,
+                premises,
+            )
+        }
+        Proof::Fale(p) => check_node(p.get(), cx, vars, hyps, next, &Formula::Falsum),
+        Proof::Lem => Ok(settled(node, goals::is_middle(goal), number::LEM)),
+        Proof::Alli(p) => {
+            let premises = rules::alli(cx, vars, goal)?;
+            check_one(p.get(), cx, hyps, node, next, number::ALLI, premises)
+        }
+        Proof::Alle(a, t, p) => {
+            let premises = rules::alle(cx, vars, a, t, goal)?;
+            check_one(p.get(), cx, hyps, node, next, number::ALLE, premises)
+        }
+        Proof::Exi(t, p) => {
+            let premises = rules::exi(cx, vars, t, goal)?;
+            check_one(p.get(), cx, hyps, node, next, number::EXI, premises)
+        }
+        Proof::Exe(a, p, q) => {
+            let premises = rules::exe(cx, vars, a, goal)?;
+            check_two(
+                p.get(),
+                q.get(),
+                cx,
+                hyps,
+                node,
+                next,
+                number::EXE,
+                premises,
+            )
+        }
+        Proof::Refl => Ok(settled(node, goals::is_reflexive(goal), number::REFL)),
+        Proof::Repl(a, s, t, p, q) => {
+            let premises = rules::repl(cx, vars, a, s, t, goal)?;
+            check_two(
+                p.get(),
+                q.get(),
+                cx,
+                hyps,
+                node,
+                next,
+                number::REPL,
+                premises,
+            )
+        }
+        Proof::Ind(a, t, p, q) => {
+            let premises = rules::ind(cx, vars, a, t, goal)?;
+            check_two(
+                p.get(),
+                q.get(),
+                cx,
+                hyps,
+                node,
+                next,
+                number::IND,
+                premises,
+            )
+        }
+        Proof::Predi(p) => {
+            let premises = rules::predi(cx, vars, goal)?;
+            check_one(p.get(), cx, hyps, node, next, number::PREDI, premises)
+        }
+        Proof::Prede(a, p) => {
+            let premises = rules::prede(cx, vars, a, goal)?;
+            check_one(p.get(), cx, hyps, node, next, number::PREDE, premises)
+        }
+    }
 }
 
 /// Takes the number of a node, and counts one on for the next node. The count stays at the type's
@@ -63,95 +263,6 @@ fn is_at(all: &[Formula], i: u32, goal: &Formula) -> bool
     }
 }
 
-/// Checks a proof of a goal in a context of `vars` variables and the hypotheses, node by node in
-/// preorder, up to the first refusal. `next` is the number of its root; where it is accepted, it is
-/// the number after its last node then. Afterwards the hypotheses are as before.
-#[cycle(check)]
-fn check_node(
-    p: &Proof,
-    cx: &Context<'_>,
-    vars: u32,
-    hyps: &mut Items<Formula>,
-    next: &mut u32,
-    goal: &Formula,
-) -> Result<Verdict, AllocError>
-    ensures checks { IfOk result (λ v. Gives (logic.fault_of (signature cx.now.sig.now) (formulas cx.now.theorems.now) (proof p.now) vars (formulas hyps.old) (formula goal.now)) (logic.steps (proof p.now)) next.old next.new v) }
-    ensures kept { IfOk result (λ _. hyps.new ≡ hyps.old) }
-{
-    let node = enter(next);
-    match p {
-        Proof::Hyp(i) => Ok(settled(node, is_at(hyps.as_slice(), *i, goal), 1)),
-        Proof::Thm(i) => Ok(settled(node, is_at(cx.theorems, *i, goal), 2)),
-        Proof::Andi(p, q) => {
-            let premises = rules::andi(cx, vars, goal)?;
-            check_two(p.get(), q.get(), cx, hyps, node, next, 3, premises)
-        }
-        Proof::Andl(b, p) => {
-            let premises = rules::andl(cx, vars, b, goal)?;
-            check_one(p.get(), cx, hyps, node, next, 4, premises)
-        }
-        Proof::Andr(a, p) => {
-            let premises = rules::andr(cx, vars, a, goal)?;
-            check_one(p.get(), cx, hyps, node, next, 5, premises)
-        }
-        Proof::Orl(p) => {
-            let premises = rules::orl(cx, vars, goal)?;
-            check_one(p.get(), cx, hyps, node, next, 6, premises)
-        }
-        Proof::Orr(p) => {
-            let premises = rules::orr(cx, vars, goal)?;
-            check_one(p.get(), cx, hyps, node, next, 7, premises)
-        }
-        Proof::Ore(a, b, p, q, r) => {
-            let premises = rules::ore(cx, vars, a, b, goal)?;
-            check_three(p.get(), q.get(), r.get(), cx, hyps, node, next, 8, premises)
-        }
-        Proof::Impi(p) => {
-            let premises = rules::impi(cx, vars, goal)?;
-            check_one(p.get(), cx, hyps, node, next, 9, premises)
-        }
-        Proof::Impe(a, p, q) => {
-            let premises = rules::impe(cx, vars, a, goal)?;
-            check_two(p.get(), q.get(), cx, hyps, node, next, 10, premises)
-        }
-        Proof::Fale(p) => check_node(p.get(), cx, vars, hyps, next, &Formula::Falsum),
-        Proof::Lem => Ok(settled(node, goals::is_middle(goal), 12)),
-        Proof::Alli(p) => {
-            let premises = rules::alli(cx, vars, goal)?;
-            check_one(p.get(), cx, hyps, node, next, 13, premises)
-        }
-        Proof::Alle(a, t, p) => {
-            let premises = rules::alle(cx, vars, a, t, goal)?;
-            check_one(p.get(), cx, hyps, node, next, 14, premises)
-        }
-        Proof::Exi(t, p) => {
-            let premises = rules::exi(cx, vars, t, goal)?;
-            check_one(p.get(), cx, hyps, node, next, 15, premises)
-        }
-        Proof::Exe(a, p, q) => {
-            let premises = rules::exe(cx, vars, a, goal)?;
-            check_two(p.get(), q.get(), cx, hyps, node, next, 16, premises)
-        }
-        Proof::Refl => Ok(settled(node, goals::is_reflexive(goal), 17)),
-        Proof::Repl(a, s, t, p, q) => {
-            let premises = rules::repl(cx, vars, a, s, t, goal)?;
-            check_two(p.get(), q.get(), cx, hyps, node, next, 18, premises)
-        }
-        Proof::Ind(a, t, p, q) => {
-            let premises = rules::ind(cx, vars, a, t, goal)?;
-            check_two(p.get(), q.get(), cx, hyps, node, next, 19, premises)
-        }
-        Proof::Predi(p) => {
-            let premises = rules::predi(cx, vars, goal)?;
-            check_one(p.get(), cx, hyps, node, next, 20, premises)
-        }
-        Proof::Prede(a, p) => {
-            let premises = rules::prede(cx, vars, a, goal)?;
-            check_one(p.get(), cx, hyps, node, next, 21, premises)
-        }
-    }
-}
-
 /// Checks what is left of a node with one premise, of which `p` is the proof. The node's number is
 /// `node`, and `next` is the one after it. The node is refused where there are no premises, since
 /// the condition of its rule is false then.
@@ -166,7 +277,7 @@ fn check_one(
     premises: Option<Premise>,
 ) -> Result<Verdict, AllocError>
     requires { next.old ≡ min (node + 1) (2 ^ 32 - 1) }
-    ensures checks { IfOk result (λ v. Gives (checks.one (signature cx.now.sig.now) (formulas cx.now.theorems.now) (formulas hyps.old) (proof p.now) rule (option_map premise premises)) (logic.steps (proof p.now) + 1) node next.new v) }
+    ensures checks { IfOk result (λ v. Gives (checks.one (signature cx.now.sig.now) (formulas cx.now.theorems.now) (formulas hyps.old) (proof p.now) rule (option_map premise premises)) (logic.proof_nodes (proof p.now) + 1) node next.new v) }
     ensures kept { IfOk result (λ _. hyps.new ≡ hyps.old) }
 {
     match premises {
@@ -189,7 +300,7 @@ fn check_two(
     premises: Option<(Premise, Premise)>,
 ) -> Result<Verdict, AllocError>
     requires { next.old ≡ min (node + 1) (2 ^ 32 - 1) }
-    ensures checks { IfOk result (λ v. Gives (checks.two (signature cx.now.sig.now) (formulas cx.now.theorems.now) (formulas hyps.old) (proof p.now) (proof q.now) rule (option_map pair premises)) (logic.steps (proof p.now) + logic.steps (proof q.now) + 1) node next.new v) }
+    ensures checks { IfOk result (λ v. Gives (checks.two (signature cx.now.sig.now) (formulas cx.now.theorems.now) (formulas hyps.old) (proof p.now) (proof q.now) rule (option_map pair premises)) (logic.proof_nodes (proof p.now) + logic.proof_nodes (proof q.now) + 1) node next.new v) }
     ensures kept { IfOk result (λ _. hyps.new ≡ hyps.old) }
 {
     match premises {
@@ -216,7 +327,7 @@ fn check_three(
     premises: Option<(Premise, Premise, Premise)>,
 ) -> Result<Verdict, AllocError>
     requires { next.old ≡ min (node + 1) (2 ^ 32 - 1) }
-    ensures checks { IfOk result (λ v. Gives (checks.three (signature cx.now.sig.now) (formulas cx.now.theorems.now) (formulas hyps.old) (proof p.now) (proof q.now) (proof r.now) rule (option_map triple premises)) (logic.steps (proof p.now) + logic.steps (proof q.now) + logic.steps (proof r.now) + 1) node next.new v) }
+    ensures checks { IfOk result (λ v. Gives (checks.three (signature cx.now.sig.now) (formulas cx.now.theorems.now) (formulas hyps.old) (proof p.now) (proof q.now) (proof r.now) rule (option_map triple premises)) (logic.proof_nodes (proof p.now) + logic.proof_nodes (proof q.now) + logic.proof_nodes (proof r.now) + 1) node next.new v) }
     ensures kept { IfOk result (λ _. hyps.new ≡ hyps.old) }
 {
     match premises {
@@ -241,7 +352,7 @@ fn check_premise(
     next: &mut u32,
     given: Premise,
 ) -> Result<Verdict, AllocError>
-    ensures checks { IfOk result (λ v. Gives (checks.at (signature cx.now.sig.now) (formulas cx.now.theorems.now) (formulas hyps.old) (proof p.now) (premise given)) (logic.steps (proof p.now)) next.old next.new v) }
+    ensures checks { IfOk result (λ v. Gives (checks.at (signature cx.now.sig.now) (formulas cx.now.theorems.now) (formulas hyps.old) (proof p.now) (premise given)) (logic.proof_nodes (proof p.now)) next.old next.new v) }
     ensures kept { IfOk result (λ _. hyps.new ≡ hyps.old) }
 {
     let Premise { vars, extra, goal } = given;
@@ -254,56 +365,4 @@ fn check_premise(
             Ok(verdict)
         }
     }
-}
-
-/// Checks a proof from its root on, over a copy of the hypotheses to which those of the premises
-/// can be put.
-fn checked(
-    alloc: Global,
-    sig: &Signature,
-    theorems: &Theorems,
-    vars: u32,
-    hyps: &[Formula],
-    p: &Proof,
-    goal: &Formula,
-) -> Result<Verdict, AllocError>
-    ensures { IfOk result (λ v. v ≡ checks.verdict_of (logic.fault_of (signature sig.now) (formulas theorems.now) (proof p.now) vars (formulas hyps.now) (formula goal.now) 0)) }
-{
-    let mut held = Items::new(alloc);
-    for a in hyps {
-        held.push(a.copied(alloc)?)?;
-    }
-    let cx = Context {
-        alloc,
-        sig,
-        theorems: theorems.as_slice(),
-    };
-    let mut next = 0;
-    check_node(p, &cx, vars, &mut held, &mut next, goal)
-}
-
-/// Checks a proof of a goal in a context: `vars` variables and the hypotheses, which fit them as
-/// the goal does. The proof may name the theorems.
-///
-/// It is accepted exactly where each node meets its rule in the context that its parents give it
-/// ("Rules" in docs/LOGIC.md), and else the first node that does not is told. It fails only for
-/// want of memory.
-pub fn check(
-    alloc: Global,
-    sig: &Signature,
-    theorems: &Theorems,
-    vars: u32,
-    hyps: &[Formula],
-    p: &Proof,
-    goal: &Formula,
-) -> Result<Verdict, AllocError>
-    requires hyps { AllFit (signature sig.now) vars (formulas hyps.now) }
-    requires goal { IsTrue (arith.fits (signature sig.now) vars 0 (formula goal.now)) }
-    ensures exact { IfOk result (λ v. v ≡ checks.verdict_of (logic.fault_of (signature sig.now) (formulas theorems.now) (proof p.now) vars (formulas hyps.now) (formula goal.now) 0)) }
-    // what is accepted is true where the hypotheses are, and each theorem that the proof names fits
-    // no variable and is true ("Soundness" in docs/LOGIC.md)
-    ensures sound { IfOk result (λ v. v ≡ Verdict.Accepted → ((k : ℕ) → IsTrue (is_named k (proof p.now)) → IsTheorem (signature sig.now) (formulas theorems.now) k) → Entails (signature sig.now) vars (formulas hyps.now) (formula goal.now)) }
-{
-    sig.declared_law();
-    checked(alloc, sig, theorems, vars, hyps, p, goal)
 }

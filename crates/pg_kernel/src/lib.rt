@@ -6,11 +6,10 @@ mod checking;
 mod copying;
 mod goals;
 mod named;
+mod number;
 mod premise;
 mod proof;
 mod rules;
-#[cfg(test)]
-mod tests;
 mod theorems;
 
 pub use admitting::{Checked, admit};

@@ -11,14 +11,14 @@ use sqlite_items::Items;
 use std::alloc::{AllocError, Global};
 use std::collections::BTreeSet;
 
-/// Puts a number into a set.
-fn put(names: &mut BTreeSet<u32>, k: u32) -> Result<(), AllocError>
-    ensures { OnOk result ((i : ℕ) → contains nat_cmp names.new i ≡ (k == i || contains nat_cmp names.old i)) }
+/// The theorem numbers that a proof names, each once, ascending. It fails only for want of memory.
+pub fn uses(alloc: Global, p: &Proof) -> Result<BTreeSet<u32>, AllocError>
+    ensures { IfOk result (λ names. AreNames (proof p.now) names.keys) }
 {
-    match names.insert(k) {
-        Ok(_) => Ok(()),
-        Err(_) => Err(AllocError),
-    }
+    let mut names = BTreeSet::new(alloc);
+    gather(p, &mut names)?;
+    let _ = names.len();
+    Ok(names)
 }
 
 /// Puts the theorem numbers that a proof names into a set.
@@ -65,14 +65,22 @@ fn gather(p: &Proof, names: &mut BTreeSet<u32>) -> Result<(), AllocError>
     }
 }
 
-/// The theorem numbers that a proof names, each once, ascending. It fails only for want of memory.
-pub fn uses(alloc: Global, p: &Proof) -> Result<BTreeSet<u32>, AllocError>
-    ensures { IfOk result (λ names. AreNames (proof p.now) names.keys) }
+/// Puts a number into a set.
+fn put(names: &mut BTreeSet<u32>, k: u32) -> Result<(), AllocError>
+    ensures { OnOk result ((i : ℕ) → contains nat_cmp names.new i ≡ (k == i || contains nat_cmp names.old i)) }
 {
-    let mut names = BTreeSet::new(alloc);
-    gather(p, &mut names)?;
-    let _ = names.len();
-    Ok(names)
+    match names.insert(k) {
+        Ok(_) => Ok(()),
+        Err(_) => Err(AllocError),
+    }
+}
+
+/// The theorem numbers that a proof names, as a list.
+pub fn names_of(alloc: Global, p: &Proof) -> Result<Items<u32>, AllocError>
+    ensures { IfOk result (λ names. AreNames (proof p.now) names) }
+{
+    let set = uses(alloc, p)?;
+    listed(alloc, &set)
 }
 
 /// The numbers of a set, ascending.
@@ -84,12 +92,4 @@ fn listed(alloc: Global, set: &BTreeSet<u32>) -> Result<Items<u32>, AllocError>
         numbers.push(*k)?;
     }
     Ok(numbers)
-}
-
-/// The theorem numbers that a proof names, as a list.
-pub fn names_of(alloc: Global, p: &Proof) -> Result<Items<u32>, AllocError>
-    ensures { IfOk result (λ names. AreNames (proof p.now) names) }
-{
-    let set = uses(alloc, p)?;
-    listed(alloc, &set)
 }

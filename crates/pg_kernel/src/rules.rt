@@ -1,6 +1,6 @@
-//! The lines of the table of rules ("Rules" in docs/LOGIC.md): what the premises of a node prove,
-//! or none where a field does not fit or the condition is false. Each fails only for want of
-//! memory.
+//! The lines of the table of rules ("Rules" in docs/LOGIC.md): what the premises of a node prove
+//! for its goal, or none where a field does not fit or the condition is false. A formula "under"
+//! another is proved with that one put after the hypotheses. Each fails only for want of memory.
 
 ghost use Rattle.std.specs.Prelude.{◌≡◌, ◌&&◌, ◌+◌, ◌-◌, ◌^◌, ◌<◌, option_map, IfOk};
 ghost use Rattle.pg_logic.specs.Kernel as logic;
@@ -16,7 +16,7 @@ use pg_terms::{Formula, Term};
 use sqlite_items::Boxed;
 use std::alloc::AllocError;
 
-/// Rule 3.
+/// `A ∧ B`, from `A` and `B`.
 pub fn andi(
     cx: &Context<'_>,
     vars: u32,
@@ -34,7 +34,7 @@ pub fn andi(
     }
 }
 
-/// Rule 4.
+/// `C`, from `C ∧ B`.
 pub fn andl(
     cx: &Context<'_>,
     vars: u32,
@@ -49,7 +49,7 @@ pub fn andl(
     Ok(Some(here(cx.alloc, vars, goals::and(cx.alloc, goal, b)?)?))
 }
 
-/// Rule 5.
+/// `C`, from `A ∧ C`.
 pub fn andr(
     cx: &Context<'_>,
     vars: u32,
@@ -64,7 +64,7 @@ pub fn andr(
     Ok(Some(here(cx.alloc, vars, goals::and(cx.alloc, a, goal)?)?))
 }
 
-/// Rule 6.
+/// `A ∨ B`, from `A`.
 pub fn orl(cx: &Context<'_>, vars: u32, goal: &Formula) -> Result<Option<Premise>, AllocError>
     ensures { IfOk result (λ o. option_map premise o ≡ logic.orl_line vars (formula goal.now)) }
 {
@@ -74,7 +74,7 @@ pub fn orl(cx: &Context<'_>, vars: u32, goal: &Formula) -> Result<Option<Premise
     }
 }
 
-/// Rule 7.
+/// `A ∨ B`, from `B`.
 pub fn orr(cx: &Context<'_>, vars: u32, goal: &Formula) -> Result<Option<Premise>, AllocError>
     ensures { IfOk result (λ o. option_map premise o ≡ logic.orr_line vars (formula goal.now)) }
 {
@@ -84,7 +84,7 @@ pub fn orr(cx: &Context<'_>, vars: u32, goal: &Formula) -> Result<Option<Premise
     }
 }
 
-/// Rule 8.
+/// `C`, from `A ∨ B`, `C` under `A`, and `C` under `B`.
 pub fn ore(
     cx: &Context<'_>,
     vars: u32,
@@ -102,7 +102,7 @@ pub fn ore(
     Ok(Some((here(cx.alloc, vars, whole)?, left, right)))
 }
 
-/// Rule 9.
+/// `A → B`, from `B` under `A`.
 pub fn impi(cx: &Context<'_>, vars: u32, goal: &Formula) -> Result<Option<Premise>, AllocError>
     ensures { IfOk result (λ o. option_map premise o ≡ logic.impi_line vars (formula goal.now)) }
 {
@@ -112,7 +112,7 @@ pub fn impi(cx: &Context<'_>, vars: u32, goal: &Formula) -> Result<Option<Premis
     }
 }
 
-/// Rule 10.
+/// `C`, from `A → C` and `A`.
 pub fn impe(
     cx: &Context<'_>,
     vars: u32,
@@ -129,7 +129,7 @@ pub fn impe(
     Ok(Some((whole, part)))
 }
 
-/// Rule 13.
+/// `∀ x, A`, from `A` at a new variable.
 pub fn alli(cx: &Context<'_>, vars: u32, goal: &Formula) -> Result<Option<Premise>, AllocError>
     ensures { IfOk result (λ o. option_map premise o ≡ logic.alli_line vars (formula goal.now)) }
 {
@@ -146,7 +146,7 @@ pub fn alli(cx: &Context<'_>, vars: u32, goal: &Formula) -> Result<Option<Premis
     }
 }
 
-/// Rule 14.
+/// `A[t]`, from `∀ x, A`.
 pub fn alle(
     cx: &Context<'_>,
     vars: u32,
@@ -156,13 +156,13 @@ pub fn alle(
 ) -> Result<Option<Premise>, AllocError>
     ensures { IfOk result (λ o. option_map premise o ≡ logic.alle_line (signature cx.now.sig.now) vars (formula a.now) (term t.now) (formula goal.now)) }
 {
-    if !opens_to(cx, vars, a, t, goal)? {
+    if !is_instance(cx, vars, a, t, goal)? {
         return Ok(None);
     }
     Ok(Some(here(cx.alloc, vars, goals::all(cx.alloc, a)?)?))
 }
 
-/// Rule 15.
+/// `∃ x, A`, from `A[t]`.
 pub fn exi(
     cx: &Context<'_>,
     vars: u32,
@@ -180,7 +180,7 @@ pub fn exi(
     }
 }
 
-/// Rule 16.
+/// `C`, from `∃ x, A`, and `C` under `A` at a new variable.
 pub fn exe(
     cx: &Context<'_>,
     vars: u32,
@@ -198,7 +198,7 @@ pub fn exe(
     Ok(Some((some, then)))
 }
 
-/// Rule 18.
+/// `A[t]`, from `s = t` and `A[s]`.
 pub fn repl(
     cx: &Context<'_>,
     vars: u32,
@@ -209,7 +209,10 @@ pub fn repl(
 ) -> Result<Option<(Premise, Premise)>, AllocError>
     ensures { IfOk result (λ o. option_map pair o ≡ logic.repl_line (signature cx.now.sig.now) vars (formula a.now) (term s.now) (term t.now) (formula goal.now)) }
 {
-    if !replaces_to(cx, vars, a, s, t, goal)? {
+    if !cx.sig.fits_term(vars, s) {
+        return Ok(None);
+    }
+    if !is_instance(cx, vars, a, t, goal)? {
         return Ok(None);
     }
     let equal = here(cx.alloc, vars, goals::eq(cx.alloc, s, t)?)?;
@@ -217,7 +220,7 @@ pub fn repl(
     Ok(Some((equal, before)))
 }
 
-/// Rule 19.
+/// `A[t]`, from `A[0]`, and `A[succ v]` under `A[v]` for a new variable `v`.
 pub fn ind(
     cx: &Context<'_>,
     vars: u32,
@@ -227,7 +230,10 @@ pub fn ind(
 ) -> Result<Option<(Premise, Premise)>, AllocError>
     ensures { IfOk result (λ o. option_map pair o ≡ logic.ind_line (signature cx.now.sig.now) vars (formula a.now) (term t.now) (formula goal.now)) }
 {
-    if !induces_to(cx, vars, a, t, goal)? {
+    if !has_room(vars) {
+        return Ok(None);
+    }
+    if !is_instance(cx, vars, a, t, goal)? {
         return Ok(None);
     }
     let first = here(cx.alloc, vars, a.opened(cx.alloc, &Term::Zero)?)?;
@@ -235,7 +241,7 @@ pub fn ind(
     Ok(Some((first, step)))
 }
 
-/// Rule 20.
+/// A declared predicate at terms, from its body at them.
 pub fn predi(cx: &Context<'_>, vars: u32, goal: &Formula) -> Result<Option<Premise>, AllocError>
     ensures { IfOk result (λ o. option_map premise o ≡ logic.predi_line (signature cx.now.sig.now) vars (formula goal.now)) }
 {
@@ -245,7 +251,7 @@ pub fn predi(cx: &Context<'_>, vars: u32, goal: &Formula) -> Result<Option<Premi
     }
 }
 
-/// Rule 21.
+/// The body of a declared predicate at terms, from this predicate formula.
 pub fn prede(
     cx: &Context<'_>,
     vars: u32,
@@ -260,6 +266,34 @@ pub fn prede(
     Ok(Some(here(cx.alloc, vars, a.copied(cx.alloc)?)?))
 }
 
+/// Both cases of a disjunction: the goal under either side of it.
+fn cases(
+    cx: &Context<'_>,
+    vars: u32,
+    a: &Formula,
+    b: &Formula,
+    goal: &Formula,
+) -> Result<(Premise, Premise), AllocError>
+    ensures { IfOk result (λ p. pair p ≡ (logic.assuming vars (formula a.now) (formula goal.now), logic.assuming vars (formula b.now) (formula goal.now))) }
+{
+    let left = assuming_copies(cx, vars, a, goal)?;
+    let right = assuming_copies(cx, vars, b, goal)?;
+    Ok((left, right))
+}
+
+/// A premise with `known` for one more hypothesis, from copies of it and of the goal.
+fn assuming_copies(
+    cx: &Context<'_>,
+    vars: u32,
+    known: &Formula,
+    goal: &Formula,
+) -> Result<Premise, AllocError>
+    ensures { IfOk result (λ p. premise p ≡ logic.assuming vars (formula known.now) (formula goal.now)) }
+{
+    let extra = goals::boxed(cx.alloc, known)?;
+    assuming(cx.alloc, vars, extra, goal.copied(cx.alloc)?)
+}
+
 /// Whether a context may have one more variable.
 fn has_room(vars: u32) -> bool
     ensures { result ≡ logic.has_room vars }
@@ -268,15 +302,14 @@ fn has_room(vars: u32) -> bool
 }
 
 /// Whether a body and a term fit, and the body opened by the term is the goal.
-fn opens_to(
+fn is_instance(
     cx: &Context<'_>,
     vars: u32,
     a: &Formula,
     t: &Term,
     goal: &Formula,
 ) -> Result<bool, AllocError>
-    ensures { IfOk result (λ b. b ≡ (arith.fits (signature cx.now.sig.now) vars 1 (formula a.now) && arith.fits_term (signature cx.now.sig.now).functions vars 0 (term t.now)
-        && tree.same_formula (tree.opened_formula (term t.now) (formula a.now)) (formula goal.now))) }
+    ensures { IfOk result (λ b. b ≡ logic.is_instance (signature cx.now.sig.now) vars (formula a.now) (term t.now) (formula goal.now)) }
 {
     if !(cx.sig.fits_body(vars, a) && cx.sig.fits_term(vars, t)) {
         return Ok(false);
@@ -285,24 +318,21 @@ fn opens_to(
     Ok(whole.same(goal))
 }
 
-/// Whether a body and two terms fit, and the body opened by the second is the goal.
-fn replaces_to(
-    cx: &Context<'_>,
-    vars: u32,
-    a: &Formula,
-    s: &Term,
-    t: &Term,
-    goal: &Formula,
-) -> Result<bool, AllocError>
-    ensures { IfOk result (λ b. b ≡ (arith.fits (signature cx.now.sig.now) vars 1 (formula a.now) && arith.fits_term (signature cx.now.sig.now).functions vars 0 (term s.now)
-        && arith.fits_term (signature cx.now.sig.now).functions vars 0 (term t.now)
-        && tree.same_formula (tree.opened_formula (term t.now) (formula a.now)) (formula goal.now))) }
+/// The step of an induction.
+fn step(cx: &Context<'_>, vars: u32, a: &Formula) -> Result<Premise, AllocError>
+    requires { vars < 2 ^ 32 - 1 }
+    ensures { IfOk result (λ p. premise p ≡ logic.assuming (vars + 1) (tree.opened_formula (tree.free vars) (formula a.now)) (tree.opened_formula (tree.succ (tree.free vars)) (formula a.now))) }
 {
-    if !(cx.sig.fits_body(vars, a) && cx.sig.fits_term(vars, s) && cx.sig.fits_term(vars, t)) {
-        return Ok(false);
-    }
-    let whole = a.opened(cx.alloc, t)?;
-    Ok(whole.same(goal))
+    let known = goals::newest(cx.alloc, vars, a)?;
+    assuming(cx.alloc, vars + 1, known, next(cx, vars, a)?)
+}
+
+/// What the step of an induction proves.
+fn next(cx: &Context<'_>, vars: u32, a: &Formula) -> Result<Formula, AllocError>
+    ensures { IfOk result (λ r. formula r ≡ tree.opened_formula (tree.succ (tree.free vars)) (formula a.now)) }
+{
+    let next = Term::Succ(Boxed::new(cx.alloc, Term::Free(vars))?);
+    a.opened(cx.alloc, &next)
 }
 
 /// The body of a predicate formula at its terms.
@@ -321,7 +351,7 @@ fn unfolded(cx: &Context<'_>, a: &Formula) -> Result<Option<Formula>, AllocError
     }
 }
 
-/// Whether the goal is the body of this predicate formula.
+/// Whether a predicate formula fits, and the goal is its body at its terms.
 fn unfolds_to(cx: &Context<'_>, vars: u32, a: &Formula, goal: &Formula) -> Result<bool, AllocError>
     ensures { IfOk result (λ b. b ≡ (arith.fits (signature cx.now.sig.now) vars 0 (formula a.now) && logic.is_unfolded (logic.unfolded (signature cx.now.sig.now) (formula a.now)) (formula goal.now))) }
 {
@@ -332,67 +362,4 @@ fn unfolds_to(cx: &Context<'_>, vars: u32, a: &Formula, goal: &Formula) -> Resul
         None => Ok(false),
         Some(body) => Ok(body.same(goal)),
     }
-}
-
-/// Whether the condition of an induction holds.
-fn induces_to(
-    cx: &Context<'_>,
-    vars: u32,
-    a: &Formula,
-    t: &Term,
-    goal: &Formula,
-) -> Result<bool, AllocError>
-    ensures { IfOk result (λ b. b ≡ (logic.has_room vars && arith.fits (signature cx.now.sig.now) vars 1 (formula a.now) && arith.fits_term (signature cx.now.sig.now).functions vars 0 (term t.now)
-        && tree.same_formula (tree.opened_formula (term t.now) (formula a.now)) (formula goal.now))) }
-{
-    if !(has_room(vars) && cx.sig.fits_body(vars, a) && cx.sig.fits_term(vars, t)) {
-        return Ok(false);
-    }
-    let whole = a.opened(cx.alloc, t)?;
-    Ok(whole.same(goal))
-}
-
-/// A premise with `known` for one more hypothesis, from copies of it and of the goal.
-fn assuming_copies(
-    cx: &Context<'_>,
-    vars: u32,
-    known: &Formula,
-    goal: &Formula,
-) -> Result<Premise, AllocError>
-    ensures { IfOk result (λ p. premise p ≡ logic.assuming vars (formula known.now) (formula goal.now)) }
-{
-    let extra = goals::boxed(cx.alloc, known)?;
-    assuming(cx.alloc, vars, extra, goal.copied(cx.alloc)?)
-}
-
-/// Both cases of rule 8: the goal from either side of the disjunction.
-fn cases(
-    cx: &Context<'_>,
-    vars: u32,
-    a: &Formula,
-    b: &Formula,
-    goal: &Formula,
-) -> Result<(Premise, Premise), AllocError>
-    ensures { IfOk result (λ p. pair p ≡ (logic.assuming vars (formula a.now) (formula goal.now), logic.assuming vars (formula b.now) (formula goal.now))) }
-{
-    let left = assuming_copies(cx, vars, a, goal)?;
-    let right = assuming_copies(cx, vars, b, goal)?;
-    Ok((left, right))
-}
-
-/// What the step of an induction proves.
-fn next(cx: &Context<'_>, vars: u32, a: &Formula) -> Result<Formula, AllocError>
-    ensures { IfOk result (λ r. formula r ≡ tree.opened_formula (tree.succ (tree.free vars)) (formula a.now)) }
-{
-    let next = Term::Succ(Boxed::new(cx.alloc, Term::Free(vars))?);
-    a.opened(cx.alloc, &next)
-}
-
-/// The step of an induction.
-fn step(cx: &Context<'_>, vars: u32, a: &Formula) -> Result<Premise, AllocError>
-    requires { vars < 2 ^ 32 - 1 }
-    ensures { IfOk result (λ p. premise p ≡ logic.assuming (vars + 1) (tree.opened_formula (tree.free vars) (formula a.now)) (tree.opened_formula (tree.succ (tree.free vars)) (formula a.now))) }
-{
-    let known = goals::newest(cx.alloc, vars, a)?;
-    assuming(cx.alloc, vars + 1, known, next(cx, vars, a)?)
 }
