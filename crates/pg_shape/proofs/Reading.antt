@@ -1,9 +1,10 @@
 -- One symbol more, and the operand that leaves a frame.
-use Rattle.std.proofs.Common.{◌≡◌, ℕ, ◌==◌, Bool, true, false, cond, List, ◌∷◌, Option, Some, None, nat_lt, sym as flip, ◌∙◌, ap, refl, arith, ◌<◌}
+use Rattle.std.proofs.Common.{◌≡◌, ℕ, ◌==◌, Bool, true, false, cond, List, [], ◌∷◌, Option, Some, None, nat_lt, sym as flip, ◌∙◌, ap, refl, arith, ◌<◌}
 use Rattle.std.proofs.lemmas.Bool.Decides.{nat_tests}
 use Rattle.pg_grammar.specs.Shapes.{Sym, Shape}
 use Rattle.pg_grammar.specs.Faults.{Fault, Expected, Deep, Long, Part, Lost, Refused}
-use Rattle.pg_grammar.specs.Machine.{Frame, InParen, close_in, State, is_paren, depth, stopped, with_next, whole}
+use Rattle.pg_grammar.specs.Machine.{Frame, InParen, InNext, InArg, InNeg, InQuant, InBinary, close_in, State, Has, is_paren, leaving, settled, depth, stopped, with_next, whole}
+use Rattle.pg_shape.specs.Frames.{wants_atom, want_atom}
 use Rattle.pg_shape.specs.Answers.{judged}
 
 -- ---- one token more
@@ -51,3 +52,27 @@ has_room room o next e j =
 pub not_closing : (f : Frame) (frames : List Frame) (s : Shape) → is_paren f ≡ false → close_in (f ∷ frames) s ≡ None
 not_closing (InParen at) frames s e = cc
 not_closing _ frames s e = refl
+
+-- ---- an atom
+
+pub settled_stays : (frames : List Frame) (s : Shape) → want_atom frames ≡ false → settled frames s ≡ Has frames s
+settled_stays [] s e = refl
+settled_stays (InParen at ∷ frames) s e = refl
+settled_stays (InNext at ∷ frames) s e = cc
+settled_stays (InArg f ∷ frames) s e = cc
+settled_stays (InNeg at ∷ frames) s e = refl
+settled_stays (InQuant at q b ∷ frames) s e = refl
+settled_stays (InBinary at op l ∷ frames) s e = refl
+
+leaves-frame : (f : Frame) (frames : List Frame) (s : Shape) → wants_atom f ≡ true → settled (f ∷ frames) s ≡ Has frames (leaving f s)
+leaves-frame (InParen at) frames s e = cc
+leaves-frame (InNext at) frames s e = refl
+leaves-frame (InArg f) frames s e = refl
+leaves-frame (InNeg at) frames s e = cc
+leaves-frame (InQuant at q b) frames s e = cc
+leaves-frame (InBinary at op l) frames s e = cc
+
+pub settled_leaves : (frames outer : List Frame) (f : Frame) (s : Shape) → frames ≡ f ∷ outer → want_atom frames ≡ true → settled frames s ≡ Has outer (leaving f s)
+settled_leaves frames outer f s parts e = ap (λ l. settled l s) parts ∙ leaves-frame f outer s (flip (ap want_atom parts) ∙ e)
+
+pub ruleset settles = (settled_stays, settled_leaves)

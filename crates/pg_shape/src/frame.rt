@@ -2,14 +2,15 @@
 ghost use Rattle.std.specs.Prelude.{◌≡◌, false, IfOk, MatchOption};
 ghost use Rattle.pg_grammar.specs.Machine as machine;
 ghost use Rattle.pg_shape.specs.View.{shape};
-ghost use Rattle.pg_shape.specs.Frames.{frame};
+ghost use Rattle.pg_shape.specs.Frames.{frame, wants_atom};
 
 use crate::shape::{ATOM, Binders, NEGATION, Op, Quantifier, Shape};
+use pg_base::Wanted;
 use sqlite_items::Boxed;
 use std::alloc::{AllocError, Global};
 
 /// Something that wants an operand.
-#[derive(Debug, Drop)]
+#[derive(Drop)]
 pub enum Frame<'a> {
     /// An open parenthesis.
     Paren(u32),
@@ -36,6 +37,22 @@ impl<'a> Frame<'a> {
             Frame::Neg(_) => NEGATION,
             Frame::Binary(_, op, _) => op.right_min(),
         }
+    }
+
+    /// What its operand is: a formula, or a term. In an open parenthesis stands either.
+    pub fn operand(&self) -> Wanted {
+        match self {
+            Frame::Neg(_) | Frame::Quant(..) => Wanted::Formula,
+            Frame::Binary(_, Op::Implies | Op::Or | Op::And, _) => Wanted::Formula,
+            _ => Wanted::Term,
+        }
+    }
+
+    /// Whether its operand is an atom, which leaves it at once.
+    pub fn wants_atom(&self) -> bool
+        ensures { result ≡ wants_atom (frame self.now) }
+    {
+        matches!(self, Frame::Next(_) | Frame::Arg(_))
     }
 
     /// Whether it is an open parenthesis.

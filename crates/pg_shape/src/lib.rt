@@ -10,8 +10,6 @@ mod shape;
 mod stack;
 mod state;
 mod symbol;
-#[cfg(test)]
-mod tests;
 
 pub use fault::ShapeFault;
 pub use reader::shape_of;

@@ -14,13 +14,41 @@ use crate::symbol::symbol;
 use pg_base::Token;
 use std::alloc::Global;
 
-// How deep a token may be nested.
+/// How deep a token may be nested.
 const NESTING_LIMIT: u64 = 100;
 
-// How many tokens there may be.
+/// How many tokens there may be.
 const TOKEN_LIMIT: usize = 8192;
 
-// One token more, where there is room for so many.
+/// The shape of these tokens, whose end is the byte `end`. Where they have none, or are nested over 100
+/// or more than 8,192, it is the first fault: at one token `Expected` before `Deep` before `Long`. Its
+/// place is that of the token, or `end`. Want of memory is `OutOfMemory`.
+#[tactic(auto, using(crate::proofs::Answering::right))]
+pub fn shape_of<'a>(alloc: Global, tokens: &[Token<'a>], end: u32) -> Result<Shape<'a>, ShapeFault>
+    ensures reads { Gives (shape_answer end (map word tokens.now)) result }
+    ensures right { IsRight end (map word tokens.now) result }
+{
+    read_shape(alloc, tokens, end)
+}
+
+/// The shape of these tokens, or the first fault.
+#[tactic(auto, using(crate::proofs::Answering::reads_start, crate::proofs::Answering::turn, crate::proofs::Answering::fault_turn, crate::proofs::Answering::end_turn, crate::proofs::Reading::has_room))]
+fn read_shape<'a>(alloc: Global, tokens: &[Token<'a>], end: u32) -> Result<Shape<'a>, ShapeFault>
+    ensures { Gives (shape_answer end (map word tokens.now)) result }
+{
+    let mut state = State::Wants(Stack::new(alloc));
+    let mut room = TOKEN_LIMIT;
+    for token in tokens {
+        state = match taken(alloc, state, token, room) {
+            Ok(next) => next,
+            Err(fault) => return Err(fault),
+        };
+        room -= 1;
+    }
+    finished(alloc, state, end)
+}
+
+/// One token more, where there is room for so many.
 fn taken<'a>(
     alloc: Global,
     state: State<'a>,
@@ -44,7 +72,7 @@ fn taken<'a>(
     Ok(next)
 }
 
-// All tokens have been taken.
+/// The answer where all tokens have been taken.
 fn finished<'a>(alloc: Global, state: State<'a>, end: u32) -> Result<Shape<'a>, ShapeFault>
     ensures { Ends (machine.ended (state_of state.entry)) end result }
 {
@@ -54,32 +82,4 @@ fn finished<'a>(alloc: Global, state: State<'a>, end: u32) -> Result<Shape<'a>, 
         Ok(None) => Err(ShapeFault::Expected { at: end, what }),
         Err(_) => Err(ShapeFault::OutOfMemory),
     }
-}
-
-// The shape of these tokens, or the first fault.
-#[tactic(auto, using(crate::proofs::Answering::reads_start, crate::proofs::Answering::turn, crate::proofs::Answering::fault_turn, crate::proofs::Answering::end_turn, crate::proofs::Reading::has_room))]
-fn read_shape<'a>(alloc: Global, tokens: &[Token<'a>], end: u32) -> Result<Shape<'a>, ShapeFault>
-    ensures { Gives (shape_answer end (map word tokens.now)) result }
-{
-    let mut state = State::Wants(Stack::new(alloc));
-    let mut room = TOKEN_LIMIT;
-    for token in tokens {
-        state = match taken(alloc, state, token, room) {
-            Ok(next) => next,
-            Err(fault) => return Err(fault),
-        };
-        room -= 1;
-    }
-    finished(alloc, state, end)
-}
-
-/// The shape of these tokens, whose end is the byte `end`. Where they have none, or are nested over 100
-/// or more than 8,192, it is the first fault: at one token `Expected` before `Deep` before `Long`. Its
-/// place is that of the token, or `end`. Want of memory is `OutOfMemory`.
-#[tactic(auto, using(crate::proofs::Answering::right))]
-pub fn shape_of<'a>(alloc: Global, tokens: &[Token<'a>], end: u32) -> Result<Shape<'a>, ShapeFault>
-    ensures reads { Gives (shape_answer end (map word tokens.now)) result }
-    ensures right { IsRight end (map word tokens.now) result }
-{
-    read_shape(alloc, tokens, end)
 }

@@ -7,7 +7,7 @@ use crate::frame::Frame;
 use sqlite_items::Items;
 
 /// The open frames, the innermost last, and how deep an operand in them is nested.
-#[derive(Debug, Drop)]
+#[derive(Drop)]
 pub struct Stack<'a> {
     pub frames: Items<Frame<'a>>,
     pub nesting: u64,

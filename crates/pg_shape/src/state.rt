@@ -18,7 +18,7 @@ use sqlite_items::Boxed;
 use std::alloc::{AllocError, Global};
 
 /// Where a reading stands.
-#[derive(Debug, Drop)]
+#[derive(Drop)]
 pub enum State<'a> {
     /// An operand is wanted in these frames.
     Wants(Stack<'a>),
@@ -26,257 +26,6 @@ pub enum State<'a> {
     Has(Stack<'a>, Boxed<Shape<'a>>),
     /// In them stands a quantifier, and its names are wanted.
     Binds(Stack<'a>, u32, Quantifier, Heading<'a>),
-}
-
-/// An operand in its frames.
-#[derive(Debug, Drop)]
-pub struct Operand<'a> {
-    pub stack: Stack<'a>,
-    pub shape: Boxed<Shape<'a>>,
-}
-
-// Whether the sign goes on this shape in a place that wants at least `min`.
-fn takes(min: u8, left: &Shape<'_>, sign: Op) -> bool
-    ensures { result ≡ machine.takes min (shape_in left.now) (op sign) }
-{
-    min <= sign.level() && sign.left_min() <= left.strength() && left.is_closed()
-}
-
-// Whether the sign, where there is one, goes on it.
-fn goes_on(sign: Option<Op>, min: u8, left: &Shape<'_>) -> bool
-    ensures { result ≡ machine.goes_on (option_map op sign) min (shape_in left.now) }
-{
-    match sign {
-        Some(sign) => takes(min, left, sign),
-        None => false,
-    }
-}
-
-// Whether the operand stays in this frame: it is a parenthesis, or the sign goes on in it.
-fn stays(frame: &Frame<'_>, operand: &Shape<'_>, sign: Option<Op>) -> bool
-    ensures { result ≡ (machine.is_paren (frame_in frame.now) || machine.goes_on (option_map op sign) (machine.place (frame_in frame.now)) (shape_in operand.now)) }
-{
-    frame.is_paren() || goes_on(sign, frame.place(), operand)
-}
-
-// The operand leaves its frames up to one with which the sign goes on, or up to the innermost
-// parenthesis.
-fn reduced<'a>(
-    alloc: Global,
-    stack: Stack<'a>,
-    inner: Boxed<Shape<'a>>,
-    sign: Option<Op>,
-) -> Result<Operand<'a>, AllocError>
-    ensures { IfOk result (λ o. operand o ≡ machine.reduced (option_map op sign) (frames_in stack.entry) (shape_in inner.entry)) }
-{
-    let mut frames = stack;
-    let mut shape = inner;
-    loop {
-        let (top, outer) = frames.popped();
-        match top {
-            None => return Ok(Operand {
-                stack: outer,
-                shape,
-            }),
-            Some(frame) => {
-                if stays(&frame, shape.get(), sign) {
-                    let stack = outer.pushed(frame)?;
-                    return Ok(Operand { stack, shape });
-                }
-                shape = frame.leaving(alloc, shape)?;
-                frames = outer;
-            }
-        }
-    }
-}
-
-// An atom leaves a frame that wants one.
-fn settled<'a>(
-    alloc: Global,
-    frames: Stack<'a>,
-    atom: Boxed<Shape<'a>>,
-) -> Result<State<'a>, AllocError>
-    ensures { IfOk result (λ s. state s ≡ machine.settled (frames_in frames.entry) (shape_in atom.entry)) }
-{
-    let (top, outer) = frames.popped();
-    match top {
-        Some(Frame::Next(at)) => Ok(State::Has(outer, Boxed::new(alloc, Shape::Next(at, atom))?)),
-        Some(Frame::Arg(f)) => Ok(State::Has(outer, Boxed::new(alloc, Shape::App(f, atom))?)),
-        Some(frame) => Ok(State::Has(outer.pushed(frame)?, atom)),
-        None => Ok(State::Has(outer, atom)),
-    }
-}
-
-fn settled_atom<'a>(
-    alloc: Global,
-    frames: Stack<'a>,
-    atom: Shape<'a>,
-) -> Result<Option<State<'a>>, AllocError>
-    ensures { IfOk result (λ o. option_map state o ≡ Some (machine.settled (frames_in frames.entry) (shape_in atom.entry))) }
-{
-    let atom = Boxed::new(alloc, atom)?;
-    Ok(Some(settled(alloc, frames, atom)?))
-}
-
-// An operand is wanted, and this symbol stands there.
-fn wants<'a>(
-    alloc: Global,
-    frames: Stack<'a>,
-    symbol: Sym<'a>,
-) -> Result<Option<State<'a>>, AllocError>
-    ensures { IfOk result (λ o. option_map state o ≡ machine.step (machine.Wants (frames_in frames.entry)) (sym symbol.entry)) }
-{
-    match symbol {
-        Sym::Name(x) => settled_atom(alloc, frames, Shape::Named(x)),
-        Sym::Number(n) => settled_atom(alloc, frames, Shape::Numeral(n)),
-        Sym::False(at) => settled_atom(alloc, frames, Shape::Falsum(at)),
-        Sym::Succ(at) => {
-            if frames.wanted() > APPLICATION {
-                return Ok(None);
-            }
-            Ok(Some(State::Wants(frames.pushed(Frame::Next(at))?)))
-        }
-        Sym::Not(at) => {
-            if frames.wanted() > NEGATION {
-                return Ok(None);
-            }
-            Ok(Some(State::Wants(frames.pushed(Frame::Neg(at))?)))
-        }
-        Sym::Quantifier(at, q) => {
-            if frames.wanted() > APPLICATION {
-                return Ok(None);
-            }
-            Ok(Some(State::Binds(frames, at, q, Heading::Unnamed)))
-        }
-        Sym::Open(at) => Ok(Some(State::Wants(frames.pushed(Frame::Paren(at))?))),
-        _ => Ok(None),
-    }
-}
-
-// One argument more, an atom.
-fn applied<'a>(
-    alloc: Global,
-    frames: Stack<'a>,
-    f: Boxed<Shape<'a>>,
-    atom: Shape<'a>,
-) -> Result<Option<State<'a>>, AllocError>
-    ensures { IfOk result (λ o. option_map state o ≡ machine.when (grammar.can_apply (shape_in f.entry)) (machine.Has (frames_in frames.entry) (grammar.App (shape_in f.entry) (shape_in atom.entry)))) }
-{
-    if !f.get().can_apply() {
-        return Ok(None);
-    }
-    let atom = Boxed::new(alloc, atom)?;
-    Ok(Some(State::Has(frames, Boxed::new(alloc, Shape::App(f, atom))?)))
-}
-
-// A sign behind an operand.
-fn signed<'a>(
-    alloc: Global,
-    frames: Stack<'a>,
-    left: Boxed<Shape<'a>>,
-    at: u32,
-    sign: Op,
-) -> Result<Option<State<'a>>, AllocError>
-    ensures { IfOk result (λ o. option_map state o ≡ machine.step (machine.Has (frames_in frames.entry) (shape_in left.entry)) (grammar.Sign at (op sign))) }
-{
-    let Operand { stack, shape } = reduced(alloc, frames, left, Some(sign))?;
-    if !takes(stack.wanted(), shape.get(), sign) {
-        return Ok(None);
-    }
-    Ok(Some(State::Wants(stack.pushed(Frame::Binary(at, sign, shape))?)))
-}
-
-// A closing parenthesis behind an operand.
-#[tactic(auto, using(crate::proofs::Reading::not_closing))]
-fn closed<'a>(
-    alloc: Global,
-    frames: Stack<'a>,
-    inner: Boxed<Shape<'a>>,
-) -> Result<Option<State<'a>>, AllocError>
-    ensures { IfOk result (λ o. option_map state o ≡ machine.step (machine.Has (frames_in frames.entry) (shape_in inner.entry)) grammar.Close) }
-{
-    let Operand { stack, shape } = reduced(alloc, frames, inner, None)?;
-    let (top, outer) = stack.popped();
-    let Some(frame) = top else {
-        return Ok(None);
-    };
-    let Some(at) = frame.paren() else {
-        return Ok(None);
-    };
-    let atom = Boxed::new(alloc, Shape::Paren(at, shape))?;
-    Ok(Some(settled(alloc, outer, atom)?))
-}
-
-// An argument in parentheses begins.
-fn opened<'a>(
-    frames: Stack<'a>,
-    f: Boxed<Shape<'a>>,
-    at: u32,
-) -> Result<Option<State<'a>>, AllocError>
-    ensures { IfOk result (λ o. option_map state o ≡ machine.step (machine.Has (frames_in frames.entry) (shape_in f.entry)) (grammar.Open at)) }
-{
-    if !f.get().can_apply() {
-        return Ok(None);
-    }
-    let inside = frames.pushed(Frame::Arg(f))?;
-    Ok(Some(State::Wants(inside.pushed(Frame::Paren(at))?)))
-}
-
-// An operand stands there, and this symbol behind it.
-fn has<'a>(
-    alloc: Global,
-    frames: Stack<'a>,
-    left: Boxed<Shape<'a>>,
-    symbol: Sym<'a>,
-) -> Result<Option<State<'a>>, AllocError>
-    ensures { IfOk result (λ o. option_map state o ≡ machine.step (machine.Has (frames_in frames.entry) (shape_in left.entry)) (sym symbol.entry)) }
-{
-    match symbol {
-        Sym::Name(x) => applied(alloc, frames, left, Shape::Named(x)),
-        Sym::Number(n) => applied(alloc, frames, left, Shape::Numeral(n)),
-        Sym::False(at) => applied(alloc, frames, left, Shape::Falsum(at)),
-        Sym::Open(at) => opened(frames, left, at),
-        Sym::Infix(at, sign) => signed(alloc, frames, left, at, sign),
-        Sym::Close => closed(alloc, frames, left),
-        _ => Ok(None),
-    }
-}
-
-// The names go on with this symbol.
-fn named<'a>(
-    alloc: Global,
-    frames: Stack<'a>,
-    at: u32,
-    q: Quantifier,
-    names: Heading<'a>,
-    symbol: Sym<'a>,
-) -> Result<Option<State<'a>>, AllocError>
-    ensures { IfOk result (λ o. option_map state o ≡ option_map (machine.Binds (frames_in frames.entry) at (quantifier q)) (machine.heading_step (heading names.entry) (sym symbol.entry))) }
-{
-    match names.step(alloc, symbol)? {
-        Some(more) => Ok(Some(State::Binds(frames, at, q, more))),
-        None => Ok(None),
-    }
-}
-
-// A quantifier's names are wanted, and this symbol stands there.
-fn binds<'a>(
-    alloc: Global,
-    frames: Stack<'a>,
-    at: u32,
-    q: Quantifier,
-    names: Heading<'a>,
-    symbol: Sym<'a>,
-) -> Result<Option<State<'a>>, AllocError>
-    ensures { IfOk result (λ o. option_map state o ≡ machine.step (machine.Binds (frames_in frames.entry) at (quantifier q) (heading names.entry)) (sym symbol.entry)) }
-{
-    match symbol {
-        Sym::Comma => match names.binders() {
-            Some(all) => Ok(Some(State::Wants(frames.pushed(Frame::Quant(at, q, all))?))),
-            None => Ok(None),
-        },
-        _ => named(alloc, frames, at, q, names, symbol),
-    }
 }
 
 impl<'a> State<'a> {
@@ -324,9 +73,264 @@ impl<'a> State<'a> {
     /// What could stand next.
     pub fn wanted(&self) -> Wanted {
         match self {
-            State::Wants(_) => Wanted::Term,
+            State::Wants(frames) => frames.operand(),
             State::Has(..) => Wanted::SignOrEnd,
             State::Binds(_, _, _, names) => names.wanted(),
         }
     }
+}
+
+/// An operand is wanted, and this symbol stands there.
+fn wants<'a>(
+    alloc: Global,
+    frames: Stack<'a>,
+    symbol: Sym<'a>,
+) -> Result<Option<State<'a>>, AllocError>
+    ensures { IfOk result (λ o. option_map state o ≡ machine.step (machine.Wants (frames_in frames.entry)) (sym symbol.entry)) }
+{
+    match symbol {
+        Sym::Name(x) => settled_atom(alloc, frames, Shape::Named(x)),
+        Sym::Number(n) => settled_atom(alloc, frames, Shape::Numeral(n)),
+        Sym::False(at) => settled_atom(alloc, frames, Shape::Falsum(at)),
+        Sym::Succ(at) => {
+            if frames.wanted() > APPLICATION {
+                return Ok(None);
+            }
+            Ok(Some(State::Wants(frames.pushed(Frame::Next(at))?)))
+        }
+        Sym::Not(at) => {
+            if frames.wanted() > NEGATION {
+                return Ok(None);
+            }
+            Ok(Some(State::Wants(frames.pushed(Frame::Neg(at))?)))
+        }
+        Sym::Quantifier(at, q) => {
+            if frames.wanted() > APPLICATION {
+                return Ok(None);
+            }
+            Ok(Some(State::Binds(frames, at, q, Heading::new(alloc))))
+        }
+        Sym::Open(at) => Ok(Some(State::Wants(frames.pushed(Frame::Paren(at))?))),
+        _ => Ok(None),
+    }
+}
+
+/// An atom stands there, and leaves a frame that wants one.
+fn settled_atom<'a>(
+    alloc: Global,
+    frames: Stack<'a>,
+    atom: Shape<'a>,
+) -> Result<Option<State<'a>>, AllocError>
+    ensures { IfOk result (λ o. option_map state o ≡ Some (machine.settled (frames_in frames.entry) (shape_in atom.entry))) }
+{
+    let atom = Boxed::new(alloc, atom)?;
+    Ok(Some(settled(alloc, frames, atom)?))
+}
+
+/// An atom leaves a frame that wants one.
+#[tactic(auto, using(crate::proofs::Reading::settles))]
+fn settled<'a>(
+    alloc: Global,
+    frames: Stack<'a>,
+    atom: Boxed<Shape<'a>>,
+) -> Result<State<'a>, AllocError>
+    ensures { IfOk result (λ s. state s ≡ machine.settled (frames_in frames.entry) (shape_in atom.entry)) }
+{
+    if !frames.wants_atom() {
+        return Ok(State::Has(frames, atom));
+    }
+    let (top, outer) = frames.popped();
+    match top {
+        Some(frame) => Ok(State::Has(outer, frame.leaving(alloc, atom)?)),
+        None => Ok(State::Has(outer, atom)),
+    }
+}
+
+/// An operand stands there, and this symbol behind it.
+fn has<'a>(
+    alloc: Global,
+    frames: Stack<'a>,
+    left: Boxed<Shape<'a>>,
+    symbol: Sym<'a>,
+) -> Result<Option<State<'a>>, AllocError>
+    ensures { IfOk result (λ o. option_map state o ≡ machine.step (machine.Has (frames_in frames.entry) (shape_in left.entry)) (sym symbol.entry)) }
+{
+    match symbol {
+        Sym::Name(x) => applied(alloc, frames, left, Shape::Named(x)),
+        Sym::Number(n) => applied(alloc, frames, left, Shape::Numeral(n)),
+        Sym::False(at) => applied(alloc, frames, left, Shape::Falsum(at)),
+        Sym::Open(at) => opened(frames, left, at),
+        Sym::Infix(at, sign) => signed(alloc, frames, left, at, sign),
+        Sym::Close => closed(alloc, frames, left),
+        _ => Ok(None),
+    }
+}
+
+/// One argument more, an atom.
+fn applied<'a>(
+    alloc: Global,
+    frames: Stack<'a>,
+    f: Boxed<Shape<'a>>,
+    atom: Shape<'a>,
+) -> Result<Option<State<'a>>, AllocError>
+    ensures { IfOk result (λ o. option_map state o ≡ machine.when (grammar.can_apply (shape_in f.entry)) (machine.Has (frames_in frames.entry) (grammar.App (shape_in f.entry) (shape_in atom.entry)))) }
+{
+    if !f.get().can_apply() {
+        return Ok(None);
+    }
+    let atom = Boxed::new(alloc, atom)?;
+    Ok(Some(State::Has(frames, Boxed::new(alloc, Shape::App(f, atom))?)))
+}
+
+/// An argument in parentheses begins.
+fn opened<'a>(
+    frames: Stack<'a>,
+    f: Boxed<Shape<'a>>,
+    at: u32,
+) -> Result<Option<State<'a>>, AllocError>
+    ensures { IfOk result (λ o. option_map state o ≡ machine.step (machine.Has (frames_in frames.entry) (shape_in f.entry)) (grammar.Open at)) }
+{
+    if !f.get().can_apply() {
+        return Ok(None);
+    }
+    let inside = frames.pushed(Frame::Arg(f))?;
+    Ok(Some(State::Wants(inside.pushed(Frame::Paren(at))?)))
+}
+
+/// A sign behind an operand.
+fn signed<'a>(
+    alloc: Global,
+    frames: Stack<'a>,
+    left: Boxed<Shape<'a>>,
+    at: u32,
+    sign: Op,
+) -> Result<Option<State<'a>>, AllocError>
+    ensures { IfOk result (λ o. option_map state o ≡ machine.step (machine.Has (frames_in frames.entry) (shape_in left.entry)) (grammar.Sign at (op sign))) }
+{
+    let Operand { stack, shape } = reduced(alloc, frames, left, Some(sign))?;
+    if !takes(stack.wanted(), shape.get(), sign) {
+        return Ok(None);
+    }
+    Ok(Some(State::Wants(stack.pushed(Frame::Binary(at, sign, shape))?)))
+}
+
+/// A closing parenthesis behind an operand.
+#[tactic(auto, using(crate::proofs::Reading::not_closing))]
+fn closed<'a>(
+    alloc: Global,
+    frames: Stack<'a>,
+    inner: Boxed<Shape<'a>>,
+) -> Result<Option<State<'a>>, AllocError>
+    ensures { IfOk result (λ o. option_map state o ≡ machine.step (machine.Has (frames_in frames.entry) (shape_in inner.entry)) grammar.Close) }
+{
+    let Operand { stack, shape } = reduced(alloc, frames, inner, None)?;
+    let (top, outer) = stack.popped();
+    let Some(frame) = top else {
+        return Ok(None);
+    };
+    let Some(at) = frame.paren() else {
+        return Ok(None);
+    };
+    let atom = Boxed::new(alloc, Shape::Paren(at, shape))?;
+    Ok(Some(settled(alloc, outer, atom)?))
+}
+
+/// A quantifier's names are wanted, and this symbol stands there.
+fn binds<'a>(
+    alloc: Global,
+    frames: Stack<'a>,
+    at: u32,
+    q: Quantifier,
+    names: Heading<'a>,
+    symbol: Sym<'a>,
+) -> Result<Option<State<'a>>, AllocError>
+    ensures { IfOk result (λ o. option_map state o ≡ machine.step (machine.Binds (frames_in frames.entry) at (quantifier q) (heading names.entry)) (sym symbol.entry)) }
+{
+    match symbol {
+        Sym::Comma => match names.binders() {
+            Some(all) => Ok(Some(State::Wants(frames.pushed(Frame::Quant(at, q, all))?))),
+            None => Ok(None),
+        },
+        _ => named(alloc, frames, at, q, names, symbol),
+    }
+}
+
+/// The names go on with this symbol.
+fn named<'a>(
+    alloc: Global,
+    frames: Stack<'a>,
+    at: u32,
+    q: Quantifier,
+    names: Heading<'a>,
+    symbol: Sym<'a>,
+) -> Result<Option<State<'a>>, AllocError>
+    ensures { IfOk result (λ o. option_map state o ≡ option_map (machine.Binds (frames_in frames.entry) at (quantifier q)) (machine.heading_step (heading names.entry) (sym symbol.entry))) }
+{
+    let mut more = names;
+    if !more.step(alloc, symbol)? {
+        return Ok(None);
+    }
+    Ok(Some(State::Binds(frames, at, q, more)))
+}
+
+/// An operand in its frames.
+#[derive(Drop)]
+pub struct Operand<'a> {
+    pub stack: Stack<'a>,
+    pub shape: Boxed<Shape<'a>>,
+}
+
+/// The operand leaves its frames up to one with which the sign goes on, or up to the innermost
+/// parenthesis.
+fn reduced<'a>(
+    alloc: Global,
+    stack: Stack<'a>,
+    inner: Boxed<Shape<'a>>,
+    sign: Option<Op>,
+) -> Result<Operand<'a>, AllocError>
+    ensures { IfOk result (λ o. operand o ≡ machine.reduced (option_map op sign) (frames_in stack.entry) (shape_in inner.entry)) }
+{
+    let mut frames = stack;
+    let mut shape = inner;
+    loop {
+        let (top, outer) = frames.popped();
+        match top {
+            None => return Ok(Operand {
+                stack: outer,
+                shape,
+            }),
+            Some(frame) => {
+                if stays(&frame, shape.get(), sign) {
+                    let stack = outer.pushed(frame)?;
+                    return Ok(Operand { stack, shape });
+                }
+                shape = frame.leaving(alloc, shape)?;
+                frames = outer;
+            }
+        }
+    }
+}
+
+/// Whether the operand stays in this frame: it is a parenthesis, or the sign goes on in it.
+fn stays(frame: &Frame<'_>, operand: &Shape<'_>, sign: Option<Op>) -> bool
+    ensures { result ≡ (machine.is_paren (frame_in frame.now) || machine.goes_on (option_map op sign) (machine.place (frame_in frame.now)) (shape_in operand.now)) }
+{
+    frame.is_paren() || goes_on(sign, frame.place(), operand)
+}
+
+/// Whether the sign, where there is one, goes on it.
+fn goes_on(sign: Option<Op>, min: u8, left: &Shape<'_>) -> bool
+    ensures { result ≡ machine.goes_on (option_map op sign) min (shape_in left.now) }
+{
+    match sign {
+        Some(sign) => takes(min, left, sign),
+        None => false,
+    }
+}
+
+/// Whether the sign goes on this shape in a place that wants at least `min`.
+fn takes(min: u8, left: &Shape<'_>, sign: Op) -> bool
+    ensures { result ≡ machine.takes min (shape_in left.now) (op sign) }
+{
+    min <= sign.level() && sign.left_min() <= left.strength() && left.is_closed()
 }

@@ -31,6 +31,37 @@ pub enum Sym<'a> {
     Other,
 }
 
+/// What this token is.
+pub fn symbol<'a>(token: &Token<'a>) -> Sym<'a>
+    ensures { sym result ≡ symbol (word token.now) }
+{
+    match token.kind {
+        TokenKind::Name => name_symbol(token.at, token.text),
+        TokenKind::Number => Sym::Number(Word {
+            at: token.at,
+            text: token.text,
+        }),
+        TokenKind::Text => Sym::Other,
+        TokenKind::Sign(sign) => sign_symbol(token.at, sign),
+    }
+}
+
+/// What the name at this byte is. But for `succ` and `False` a reserved word stands in no shape.
+fn name_symbol(at: u32, text: &str) -> Sym<'_>
+    ensures { sym result ≡ name_symbol at text.now }
+{
+    if text == "succ" {
+        Sym::Succ(at)
+    } else if text == "False" {
+        Sym::False(at)
+    } else if is_reserved(text) {
+        Sym::Other
+    } else {
+        Sym::Name(Word { at, text })
+    }
+}
+
+/// What the sign at this byte is.
 fn sign_symbol<'a>(at: u32, sign: Sign) -> Sym<'a>
     ensures { sym result ≡ sign_symbol at sign }
 {
@@ -54,34 +85,5 @@ fn sign_symbol<'a>(at: u32, sign: Sign) -> Sym<'a>
         Sign::Exists => Sym::Quantifier(at, Quantifier::Exists),
         Sign::Nat => Sym::Nat,
         _ => Sym::Other,
-    }
-}
-
-fn name_symbol(at: u32, text: &str) -> Sym<'_>
-    ensures { sym result ≡ name_symbol at text.now }
-{
-    if text == "succ" {
-        Sym::Succ(at)
-    } else if text == "False" {
-        Sym::False(at)
-    } else if is_reserved(text) {
-        Sym::Other
-    } else {
-        Sym::Name(Word { at, text })
-    }
-}
-
-/// What this token is.
-pub fn symbol<'a>(token: &Token<'a>) -> Sym<'a>
-    ensures { sym result ≡ symbol (word token.now) }
-{
-    match token.kind {
-        TokenKind::Name => name_symbol(token.at, token.text),
-        TokenKind::Number => Sym::Number(Word {
-            at: token.at,
-            text: token.text,
-        }),
-        TokenKind::Text => Sym::Other,
-        TokenKind::Sign(sign) => sign_symbol(token.at, sign),
     }
 }
