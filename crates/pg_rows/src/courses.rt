@@ -56,9 +56,6 @@ pub fn open_row(
     let (name, won) = first_word(text);
     let course = session.course(name)?;
     let won = won_flags(alloc, course, won)?;
-    if won.len() != course.count() {
-        return Err(RowFault::Unread("a level has no flag"));
-    }
     let open = open_levels(alloc, course, won.as_slice(), session.times)?;
     flags_line(alloc, "open", open.as_slice(), reply)?;
     Ok(())
@@ -92,9 +89,6 @@ pub fn missing_row(
     let course = session.course(name)?;
     let level = level_of(course, level)?;
     let won = won_flags(alloc, course, won)?;
-    if won.len() != course.count() {
-        return Err(RowFault::Unread("a level has no flag"));
-    }
     let line = missing_text(alloc, course, won.as_slice(), level, session.times)?;
     Ok(reply.line(line.as_str())?)
 }
@@ -132,12 +126,22 @@ pub fn level_of(course: &Course, word: &str) -> Result<LevelId, RowFault>
     }
 }
 
-/// One flag for each level: just those of these numbers are won, or all levels.
-fn won_flags(alloc: Global, course: &Course, text: &str) -> Result<Vec<bool>, RowFault> {
-    if text == "all" {
-        return Ok(vec![in alloc; true; course.count()]?);
+/// One flag for each level: just the levels of these numbers are won, or all.
+fn won_flags(alloc: Global, course: &Course, text: &str) -> Result<Vec<bool>, RowFault>
+    ensures { IfOk result (λ won. length won.items ≡ length course.now.levels) }
+{
+    let won = flags(alloc, course, text)?;
+    if won.len() != course.count() {
+        return Err(RowFault::Unread("a level has no flag"));
     }
-    let mut won = vec![in alloc; false; course.count()]?;
+    Ok(won)
+}
+
+fn flags(alloc: Global, course: &Course, text: &str) -> Result<Vec<bool>, RowFault> {
+    let mut won = vec![in alloc; text == "all"; course.count()]?;
+    if text == "all" {
+        return Ok(won);
+    }
     for word in text.split_whitespace() {
         let LevelId(level) = level_of(course, word)?;
         mark(&mut won, level);
