@@ -3,7 +3,7 @@ use crate::fault::RowFault;
 use crate::reply::Reply;
 use crate::row::Row;
 use crate::session::Session;
-use crate::spelling::{show_formula, show_term};
+use crate::spelling::{show_formula, show_size, show_term};
 use crate::tree;
 use crate::words::Words;
 use sqlite_items::{Boxed, Items};
@@ -30,15 +30,10 @@ pub fn row(
 fn measured(alloc: Global, word: &str, reply: &mut Reply) -> Result<(), RowFault> {
     if tree::is_term(word) {
         let t = tree::term(alloc, word)?;
-        return size(alloc, t.get().size(), t.get().height(), reply);
+        return show_size(alloc, t.get().size(), t.get().height(), reply);
     }
     let a = tree::formula(alloc, word)?;
-    size(alloc, a.get().size(), a.get().height(), reply)
-}
-
-fn size(alloc: Global, size: u64, height: u32, reply: &mut Reply) -> Result<(), RowFault> {
-    let line = format!(in alloc; "size {size}, height {height}")?;
-    Ok(reply.line(line.as_str())?)
+    show_size(alloc, a.get().size(), a.get().height(), reply)
 }
 
 /// Whether two formulas are the same.

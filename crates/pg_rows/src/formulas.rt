@@ -3,7 +3,7 @@ use crate::fault::RowFault;
 use crate::reply::Reply;
 use crate::row::{Row, first_word};
 use crate::session::{Game, Session};
-use crate::spelling::{show_formula, show_term};
+use crate::spelling::{show_formula, show_size, show_term};
 use crate::text::text_in;
 use crate::tree;
 use crate::words::name;
@@ -20,6 +20,9 @@ const MOST_BYTES: usize = 1_000_000;
 
 /// How many variables a game has at most.
 const MOST_VARIABLES: usize = 1_000;
+
+/// How high a formula is at most whose tree is told.
+const MOST_HEIGHT: u32 = 200;
 
 /// Answers a row of this layer.
 pub fn row(
@@ -71,11 +74,25 @@ fn formula(
     match formula_read(alloc, game, times, source.as_str())? {
         Ok(a) => {
             let a = Boxed::new(alloc, a)?;
-            show_formula(alloc, a.get(), reply)?;
-            print_formula_of(alloc, game, 1, a.get(), reply)
+            tell_formula(alloc, game, a.get(), reply)
         }
         Err(fault) => tell(alloc, fault, reply),
     }
+}
+
+/// A formula's tree, and what is printed of it. Of a high one its size and height are enough.
+fn tell_formula(
+    alloc: Global,
+    game: &Game,
+    a: &Formula,
+    reply: &mut Reply,
+) -> Result<(), RowFault> {
+    let height = a.height();
+    if height > MOST_HEIGHT {
+        return show_size(alloc, a.size(), height, reply);
+    }
+    show_formula(alloc, a, reply)?;
+    print_formula_of(alloc, game, 1, a, reply)
 }
 
 fn tell(alloc: Global, fault: SyntaxFault, reply: &mut Reply) -> Result<(), RowFault> {

@@ -18,6 +18,17 @@ pub fn show_formula(alloc: Global, a: &Formula, reply: &mut Reply) -> Result<(),
     Ok(reply.line(text.as_str())?)
 }
 
+/// Puts a tree's size and height into a reply.
+pub fn show_size(
+    alloc: Global,
+    size: u64,
+    height: u32,
+    reply: &mut Reply,
+) -> Result<(), RowFault> {
+    let line = format!(in alloc; "size {size}, height {height}")?;
+    Ok(reply.line(line.as_str())?)
+}
+
 /// Writes a term behind a text.
 #[cycle(write)]
 fn write_term(out: &mut String, t: &Term) -> Result<(), AllocError> {
