@@ -3,7 +3,8 @@
 
 In README.md and docs/*.md an example is an indented block whose lines begin with `$ `: a command, run at the top of the
 checkout, and below it what it prints. A table whose first column is headed `Script` and whose others are `Place` and
-`Expected there` is run too, each script as a row of `pg_rows`. And a game that a stored run plays is the shipped one.
+`Expected there` is run too, each script as a row of `pg_rows`. A game that a stored run plays is the shipped one, and
+each part that `bench/parts.py` times stands in the stored rows. In docs/ROWS.md an example is a row with its answer.
 
 The gate runs this once everything is proved and built. It prints each difference, and then how many examples hold.
 """
@@ -77,14 +78,32 @@ def games():
                 yield None if one.read() == other.read() else f"{path} is not the text of {shipped}"
 
 
+def parts():
+    """Yields for the rows of the parts that are timed whether they stand in the stored rows."""
+    printed = ran("bench/parts.py --rows")
+    with open(f"{TOP}/crates/pg_rows/stdin", encoding="utf-8") as it:
+        stored = it.read()
+    yield None if "\n".join(printed) in stored else "what bench/parts.py --rows prints is not in crates/pg_rows/stdin"
+
+
+def rows(text):
+    """Yields for each example block of the page on rows what is wrong with it, or None."""
+    for block in re.findall(r"(?m)^((?:    .*\n)+)", text):
+        lines = [it[4:] for it in block.split("\n")[:-1]]
+        given = "\n".join(it for it in lines if not it.startswith("    ")) + "\n"
+        got = subprocess.run([ROWS], input=given, capture_output=True, text=True, check=False).stdout.split("\n")[:-1]
+        yield None if got == lines else f"docs/ROWS.md: {given!r} is answered {got}"
+
+
 def main():
     for program in (ROWS, PROGRAM):
         if not os.path.isfile(program):
             sys.exit(f"{program} is not built: run `rt ci` first")
-    found = [*games()]
+    found = [*games(), *parts()]
     for page in sorted([f"{TOP}/README.md", *glob.glob(f"{TOP}/docs/*.md")]):
         with open(page, encoding="utf-8") as it:
-            found += differences(os.path.relpath(page, TOP), it.read())
+            text = it.read()
+        found += rows(text) if page.endswith("/ROWS.md") else differences(os.path.relpath(page, TOP), text)
     wrong = [it for it in found if it]
     for it in wrong:
         print(it)

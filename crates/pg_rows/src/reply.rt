@@ -42,7 +42,12 @@ impl Reply {
     }
 }
 
-/// The characters that a long text begins with.
+/// The characters that a long text begins with, as many as have at most `FRONT` bytes.
 fn front(text: &str) -> &str {
-    text.get(..FRONT).unwrap_or("")
+    for less in 0..4 {
+        if let Some(front) = text.get(..FRONT - less) {
+            return front;
+        }
+    }
+    ""
 }
