@@ -5,11 +5,11 @@ use Rattle.std.proofs.lemmas.Bool.{eq-eqb, ne_eqb, cases_order, false≢true}
 use Rattle.pg_logic.specs.Tree.{Tm}
 use Rattle.pg_logic.specs.Signature.{Function}
 use Rattle.pg_logic.specs.Declarations.{function_of}
-use Rattle.pg_logic.specs.Run.{Outcome, Got, Over, Spent, then_run, use_one, Runs, run, run_recursed, run_applied, runs_from, runs_of}
+use Rattle.pg_logic.specs.Valuing.{Outcome, Got, Over, Spent, then_run, use_one, Runs, run, run_recursed, run_applied, runs_from, runs_of}
 use Rattle.pg_arith.specs.declared.values.ValueFault.{ValueFault}
 use Rattle.pg_arith.specs.declared.values.ValueFault.TheVariants.{OverLimit, OverBudget, OutOfMemory}
 use Rattle.pg_logic.specs.Value.{value, functions_of}
-use Rattle.pg_logic.proofs.Running.{Is, run-value}
+use Rattle.pg_logic.proofs.Valuing.{Is, run-value}
 use Rattle.pg_arith.specs.declared.signature.Function as declared
 use Rattle.pg_arith.specs.View.{function, plain_functions}
 use Rattle.pg_arith.specs.Outcomes.{Answers, Leaves, IsUndeclared, IsDeclaredAt}

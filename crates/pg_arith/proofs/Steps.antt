@@ -5,7 +5,7 @@ use Rattle.std.proofs.lemmas.Bool.{false≢true}
 use Rattle.std.proofs.Math.Seq.{get_or-append_seam, take-append_seam, drop-append_seam}
 use Rattle.pg_logic.specs.Tree.{Tm, free, bound, nought, succ, app, Tms, none, arg}
 use Rattle.pg_logic.specs.Signature.{count}
-use Rattle.pg_logic.specs.Run.{Outcome, Got, Over, Spent, then_run, within, Runs, run, run_all}
+use Rattle.pg_logic.specs.Valuing.{Outcome, Got, Over, Spent, then_run, within, Runs, run, run_all}
 use Rattle.pg_arith.specs.declared.postfix.Step.{Step}
 use Rattle.pg_arith.specs.declared.postfix.Step.TheVariants.{AddOne, Apply}
 use Rattle.pg_arith.specs.declared.values.ValueFault.{ValueFault}

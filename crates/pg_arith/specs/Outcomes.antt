@@ -1,7 +1,7 @@
 -- What is answered for a term that is valued step by step.
 use Rattle.std.specs.Prelude.{ℕ, ◌≡◌, ◌<◌, length, List, Result, Ok, Err}
 use Rattle.pg_logic.specs.Signature.{Function}
-use Rattle.pg_logic.specs.Run.{Outcome, Got, Over, Spent, run_applied, runs_of}
+use Rattle.pg_logic.specs.Valuing.{Outcome, Got, Over, Spent, run_applied, runs_of}
 use Rattle.pg_arith.specs.declared.values.ValueFault.{ValueFault}
 use Rattle.pg_arith.specs.declared.values.ValueFault.TheVariants.{OverLimit, OverBudget, OutOfMemory}
 

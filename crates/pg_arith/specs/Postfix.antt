@@ -2,7 +2,7 @@
 use Rattle.std.specs.Prelude.{ℕ, ◌+◌, ◌-◌, List, [], ◌∷◌, ◌++◌, length, take, drop, slice_index}
 use Rattle.pg_logic.specs.Tree.{Tm, free, bound, nought, succ, app, Tms, none, arg}
 use Rattle.pg_logic.specs.Signature.{count}
-use Rattle.pg_logic.specs.Run.{Outcome, Got, then_run, within, Runs}
+use Rattle.pg_logic.specs.Valuing.{Outcome, Got, then_run, within, Runs}
 use Rattle.pg_arith.specs.declared.postfix.Step.{Step}
 use Rattle.pg_arith.specs.declared.postfix.Step.TheVariants.{Variable, Zero, AddOne, Apply}
 

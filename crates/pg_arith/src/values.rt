@@ -3,7 +3,7 @@
 ghost use Rattle.std.specs.Prelude.{◌≡◌, ◌+◌, ◌-◌, ◌^◌, ◌<◌, ◌≤◌, ℕ, [], ◌∷◌, ◌++◌, take, slice_index, Err, IfOk, OnOk, MatchOption, MatchResult};
 ghost use Rattle.std.specs.List.{All};
 ghost use Rattle.pg_logic.specs.Declarations.{function_of};
-ghost use Rattle.pg_logic.specs.Run as runs;
+ghost use Rattle.pg_logic.specs.Valuing as runs;
 ghost use Rattle.pg_logic.specs.Value.{value, functions_of};
 ghost use Rattle.pg_logic.specs.Tree.{Tm};
 ghost use Rattle.pg_terms.specs.View.{term};

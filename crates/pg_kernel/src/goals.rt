@@ -1,4 +1,4 @@
-//! Goals of premises, made from parts.
+//! Goals of premises, made from parts, in boxes: dropping one is then a single call.
 
 ghost use Rattle.std.specs.Prelude.{◌≡◌, IfOk};
 ghost use Rattle.pg_logic.specs.Tree as tree;
@@ -16,53 +16,63 @@ pub fn boxed(alloc: Global, a: &Formula) -> Result<Boxed<Formula>, AllocError>
     Boxed::new(alloc, a.copied(alloc)?)
 }
 
+/// A body opened by a term.
+pub fn opened(alloc: Global, a: &Formula, t: &Term) -> Result<Boxed<Formula>, AllocError>
+    ensures { IfOk result (λ r. formula r ≡ tree.opened_formula (term t.now) (formula a.now)) }
+{
+    Boxed::new(alloc, a.opened(alloc, t)?)
+}
+
 /// A body opened by the newest variable.
 pub fn newest(alloc: Global, vars: u32, a: &Formula) -> Result<Boxed<Formula>, AllocError>
     ensures { IfOk result (λ r. formula r ≡ tree.opened_formula (tree.free vars) (formula a.now)) }
 {
-    Boxed::new(alloc, a.opened(alloc, &Term::Free(vars))?)
+    opened(alloc, a, &Term::Free(vars))
 }
 
 /// A conjunction of equal formulas.
-pub fn and(alloc: Global, a: &Formula, b: &Formula) -> Result<Formula, AllocError>
+pub fn and(alloc: Global, a: &Formula, b: &Formula) -> Result<Boxed<Formula>, AllocError>
     ensures { IfOk result (λ r. formula r ≡ tree.and (formula a.now) (formula b.now)) }
 {
-    Ok(Formula::And(boxed(alloc, a)?, boxed(alloc, b)?))
+    Boxed::new(alloc, Formula::And(boxed(alloc, a)?, boxed(alloc, b)?))
 }
 
 /// A disjunction of equal formulas.
-pub fn or(alloc: Global, a: &Formula, b: &Formula) -> Result<Formula, AllocError>
+pub fn or(alloc: Global, a: &Formula, b: &Formula) -> Result<Boxed<Formula>, AllocError>
     ensures { IfOk result (λ r. formula r ≡ tree.or (formula a.now) (formula b.now)) }
 {
-    Ok(Formula::Or(boxed(alloc, a)?, boxed(alloc, b)?))
+    Boxed::new(alloc, Formula::Or(boxed(alloc, a)?, boxed(alloc, b)?))
 }
 
 /// An implication of equal formulas.
-pub fn imp(alloc: Global, a: &Formula, b: &Formula) -> Result<Formula, AllocError>
+pub fn imp(alloc: Global, a: &Formula, b: &Formula) -> Result<Boxed<Formula>, AllocError>
     ensures { IfOk result (λ r. formula r ≡ tree.imp (formula a.now) (formula b.now)) }
 {
-    Ok(Formula::Imp(boxed(alloc, a)?, boxed(alloc, b)?))
+    Boxed::new(alloc, Formula::Imp(boxed(alloc, a)?, boxed(alloc, b)?))
 }
 
 /// The universal formula of an equal body.
-pub fn all(alloc: Global, a: &Formula) -> Result<Formula, AllocError>
+pub fn all(alloc: Global, a: &Formula) -> Result<Boxed<Formula>, AllocError>
     ensures { IfOk result (λ r. formula r ≡ tree.all logic.any_name (formula a.now)) }
 {
-    Ok(Formula::All(Name::new(alloc, "x")?, boxed(alloc, a)?))
+    Boxed::new(
+        alloc,
+        Formula::All(Name::new(alloc, "x")?, boxed(alloc, a)?),
+    )
 }
 
 /// The existential formula of an equal body.
-pub fn ex(alloc: Global, a: &Formula) -> Result<Formula, AllocError>
+pub fn ex(alloc: Global, a: &Formula) -> Result<Boxed<Formula>, AllocError>
     ensures { IfOk result (λ r. formula r ≡ tree.ex logic.any_name (formula a.now)) }
 {
-    Ok(Formula::Ex(Name::new(alloc, "x")?, boxed(alloc, a)?))
+    Boxed::new(alloc, Formula::Ex(Name::new(alloc, "x")?, boxed(alloc, a)?))
 }
 
 /// An equation of equal terms.
-pub fn eq(alloc: Global, s: &Term, t: &Term) -> Result<Formula, AllocError>
+pub fn eq(alloc: Global, s: &Term, t: &Term) -> Result<Boxed<Formula>, AllocError>
     ensures { IfOk result (λ r. formula r ≡ tree.eq (term s.now) (term t.now)) }
 {
-    Ok(Formula::Eq(s.copied(alloc)?, t.copied(alloc)?))
+    Boxed::new(alloc, Formula::Eq(s.copied(alloc)?, t.copied(alloc)?))
 }
 
 /// Whether a formula is `A ∨ (A → False)`.

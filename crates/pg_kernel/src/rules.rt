@@ -26,9 +26,9 @@ pub fn andi(
 {
     match goal {
         Formula::And(a, b) => {
-            let first = here(cx.alloc, vars, a.get().copied(cx.alloc)?)?;
-            let second = here(cx.alloc, vars, b.get().copied(cx.alloc)?)?;
-            Ok(Some((first, second)))
+            let a = goals::boxed(cx.alloc, a.get())?;
+            let b = goals::boxed(cx.alloc, b.get())?;
+            Ok(Some((here(vars, a), here(vars, b))))
         }
         _ => Ok(None),
     }
@@ -46,7 +46,7 @@ pub fn andl(
     if !cx.sig.fits(vars, b) {
         return Ok(None);
     }
-    Ok(Some(here(cx.alloc, vars, goals::and(cx.alloc, goal, b)?)?))
+    Ok(Some(here(vars, goals::and(cx.alloc, goal, b)?)))
 }
 
 /// `C`, from `A ∧ C`.
@@ -61,7 +61,7 @@ pub fn andr(
     if !cx.sig.fits(vars, a) {
         return Ok(None);
     }
-    Ok(Some(here(cx.alloc, vars, goals::and(cx.alloc, a, goal)?)?))
+    Ok(Some(here(vars, goals::and(cx.alloc, a, goal)?)))
 }
 
 /// `A ∨ B`, from `A`.
@@ -69,7 +69,7 @@ pub fn orl(cx: &Context<'_>, vars: u32, goal: &Formula) -> Result<Option<Premise
     ensures { IfOk result (λ o. option_map premise o ≡ logic.orl_line vars (formula goal.now)) }
 {
     match goal {
-        Formula::Or(a, _) => Ok(Some(here(cx.alloc, vars, a.get().copied(cx.alloc)?)?)),
+        Formula::Or(a, _) => Ok(Some(here(vars, goals::boxed(cx.alloc, a.get())?))),
         _ => Ok(None),
     }
 }
@@ -79,7 +79,7 @@ pub fn orr(cx: &Context<'_>, vars: u32, goal: &Formula) -> Result<Option<Premise
     ensures { IfOk result (λ o. option_map premise o ≡ logic.orr_line vars (formula goal.now)) }
 {
     match goal {
-        Formula::Or(_, b) => Ok(Some(here(cx.alloc, vars, b.get().copied(cx.alloc)?)?)),
+        Formula::Or(_, b) => Ok(Some(here(vars, goals::boxed(cx.alloc, b.get())?))),
         _ => Ok(None),
     }
 }
@@ -97,9 +97,9 @@ pub fn ore(
     if !(cx.sig.fits(vars, a) && cx.sig.fits(vars, b)) {
         return Ok(None);
     }
-    let (left, right) = cases(cx, vars, a, b, goal)?;
     let whole = goals::or(cx.alloc, a, b)?;
-    Ok(Some((here(cx.alloc, vars, whole)?, left, right)))
+    let (left, right) = cases(cx, vars, a, b, goal)?;
+    Ok(Some((here(vars, whole), left, right)))
 }
 
 /// `A → B`, from `B` under `A`.
@@ -124,9 +124,9 @@ pub fn impe(
     if !cx.sig.fits(vars, a) {
         return Ok(None);
     }
-    let whole = here(cx.alloc, vars, goals::imp(cx.alloc, a, goal)?)?;
-    let part = here(cx.alloc, vars, a.copied(cx.alloc)?)?;
-    Ok(Some((whole, part)))
+    let whole = goals::imp(cx.alloc, a, goal)?;
+    let part = goals::boxed(cx.alloc, a)?;
+    Ok(Some((here(vars, whole), here(vars, part))))
 }
 
 /// `∀ x, A`, from `A` at a new variable.
@@ -137,11 +137,10 @@ pub fn alli(cx: &Context<'_>, vars: u32, goal: &Formula) -> Result<Option<Premis
         return Ok(None);
     }
     match goal {
-        Formula::All(_, a) => Ok(Some(here(
-            cx.alloc,
-            vars + 1,
-            a.get().opened(cx.alloc, &Term::Free(vars))?,
-        )?)),
+        Formula::All(_, a) => {
+            let known = goals::newest(cx.alloc, vars, a.get())?;
+            Ok(Some(here(vars + 1, known)))
+        }
         _ => Ok(None),
     }
 }
@@ -159,7 +158,7 @@ pub fn alle(
     if !is_instance(cx, vars, a, t, goal)? {
         return Ok(None);
     }
-    Ok(Some(here(cx.alloc, vars, goals::all(cx.alloc, a)?)?))
+    Ok(Some(here(vars, goals::all(cx.alloc, a)?)))
 }
 
 /// `∃ x, A`, from `A[t]`.
@@ -175,7 +174,7 @@ pub fn exi(
         return Ok(None);
     }
     match goal {
-        Formula::Ex(_, a) => Ok(Some(here(cx.alloc, vars, a.get().opened(cx.alloc, t)?)?)),
+        Formula::Ex(_, a) => Ok(Some(here(vars, goals::opened(cx.alloc, a.get(), t)?))),
         _ => Ok(None),
     }
 }
@@ -192,10 +191,10 @@ pub fn exe(
     if !(has_room(vars) && cx.sig.fits_body(vars, a)) {
         return Ok(None);
     }
-    let some = here(cx.alloc, vars, goals::ex(cx.alloc, a)?)?;
+    let some = goals::ex(cx.alloc, a)?;
     let known = goals::newest(cx.alloc, vars, a)?;
-    let then = assuming(cx.alloc, vars + 1, known, goal.copied(cx.alloc)?)?;
-    Ok(Some((some, then)))
+    let goal = goals::boxed(cx.alloc, goal)?;
+    Ok(Some((here(vars, some), assuming(vars + 1, known, goal))))
 }
 
 /// `A[t]`, from `s = t` and `A[s]`.
@@ -215,9 +214,9 @@ pub fn repl(
     if !is_instance(cx, vars, a, t, goal)? {
         return Ok(None);
     }
-    let equal = here(cx.alloc, vars, goals::eq(cx.alloc, s, t)?)?;
-    let before = here(cx.alloc, vars, a.opened(cx.alloc, s)?)?;
-    Ok(Some((equal, before)))
+    let equal = goals::eq(cx.alloc, s, t)?;
+    let before = goals::opened(cx.alloc, a, s)?;
+    Ok(Some((here(vars, equal), here(vars, before))))
 }
 
 /// `A[t]`, from `A[0]`, and `A[succ v]` under `A[v]` for a new variable `v`.
@@ -236,9 +235,9 @@ pub fn ind(
     if !is_instance(cx, vars, a, t, goal)? {
         return Ok(None);
     }
-    let first = here(cx.alloc, vars, a.opened(cx.alloc, &Term::Zero)?)?;
+    let first = goals::opened(cx.alloc, a, &Term::Zero)?;
     let step = step(cx, vars, a)?;
-    Ok(Some((first, step)))
+    Ok(Some((here(vars, first), step)))
 }
 
 /// A declared predicate at terms, from its body at them.
@@ -247,7 +246,7 @@ pub fn predi(cx: &Context<'_>, vars: u32, goal: &Formula) -> Result<Option<Premi
 {
     match unfolded(cx, goal)? {
         None => Ok(None),
-        Some(body) => Ok(Some(here(cx.alloc, vars, body)?)),
+        Some(body) => Ok(Some(here(vars, Boxed::new(cx.alloc, body)?))),
     }
 }
 
@@ -263,7 +262,7 @@ pub fn prede(
     if !unfolds_to(cx, vars, a, goal)? {
         return Ok(None);
     }
-    Ok(Some(here(cx.alloc, vars, a.copied(cx.alloc)?)?))
+    Ok(Some(here(vars, goals::boxed(cx.alloc, a)?)))
 }
 
 /// Both cases of a disjunction: the goal under either side of it.
@@ -290,8 +289,9 @@ fn assuming_copies(
 ) -> Result<Premise, AllocError>
     ensures { IfOk result (λ p. premise p ≡ logic.assuming vars (formula known.now) (formula goal.now)) }
 {
-    let extra = goals::boxed(cx.alloc, known)?;
-    assuming(cx.alloc, vars, extra, goal.copied(cx.alloc)?)
+    let known = goals::boxed(cx.alloc, known)?;
+    let goal = goals::boxed(cx.alloc, goal)?;
+    Ok(assuming(vars, known, goal))
 }
 
 /// Whether a context may have one more variable.
@@ -314,8 +314,8 @@ fn is_instance(
     if !(cx.sig.fits_body(vars, a) && cx.sig.fits_term(vars, t)) {
         return Ok(false);
     }
-    let whole = a.opened(cx.alloc, t)?;
-    Ok(whole.same(goal))
+    let whole = goals::opened(cx.alloc, a, t)?;
+    Ok(whole.get().same(goal))
 }
 
 /// The step of an induction.
@@ -324,15 +324,16 @@ fn step(cx: &Context<'_>, vars: u32, a: &Formula) -> Result<Premise, AllocError>
     ensures { IfOk result (λ p. premise p ≡ logic.assuming (vars + 1) (tree.opened_formula (tree.free vars) (formula a.now)) (tree.opened_formula (tree.succ (tree.free vars)) (formula a.now))) }
 {
     let known = goals::newest(cx.alloc, vars, a)?;
-    assuming(cx.alloc, vars + 1, known, next(cx, vars, a)?)
+    let next = next(cx, vars, a)?;
+    Ok(assuming(vars + 1, known, next))
 }
 
 /// What the step of an induction proves.
-fn next(cx: &Context<'_>, vars: u32, a: &Formula) -> Result<Formula, AllocError>
+fn next(cx: &Context<'_>, vars: u32, a: &Formula) -> Result<Boxed<Formula>, AllocError>
     ensures { IfOk result (λ r. formula r ≡ tree.opened_formula (tree.succ (tree.free vars)) (formula a.now)) }
 {
     let next = Term::Succ(Boxed::new(cx.alloc, Term::Free(vars))?);
-    a.opened(cx.alloc, &next)
+    goals::opened(cx.alloc, a, &next)
 }
 
 /// The body of a predicate formula at its terms.
@@ -360,6 +361,9 @@ fn unfolds_to(cx: &Context<'_>, vars: u32, a: &Formula, goal: &Formula) -> Resul
     }
     match unfolded(cx, a)? {
         None => Ok(false),
-        Some(body) => Ok(body.same(goal)),
+        Some(body) => {
+            let body = Boxed::new(cx.alloc, body)?;
+            Ok(body.get().same(goal))
+        }
     }
 }

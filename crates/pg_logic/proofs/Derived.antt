@@ -1,10 +1,10 @@
 -- What the kernel accepts is derivable.
-use Rattle.std.proofs.Common.{◌≡◌, ℕ, ◌+◌, List, [], ◌∷◌, ◌++◌, Bool, true, false, ◌&&◌, Option, Some, None, refl, ap, sym, ◌∙◌, subst}
+use Rattle.std.proofs.Common.{◌≡◌, ℕ, ◌+◌, List, [], ◌∷◌, ◌++◌, Bool, true, false, ◌&&◌, Option, Some, None, refl, ap, subst}
 use Rattle.std.specs.Prelude.{slice_get, option_map}
 use Rattle.std.proofs.lemmas.Bool.{and_parts, and_from, false≢true, eq-eqb}
 use Rattle.pg_logic.specs.Tree.{Tm, free, bound, nought, succ, app, Tms, none, arg, same, same_all, Fm, falsum, eq, pred, and, or, imp, all, ex, same_formula, opened_formula}
 use Rattle.pg_logic.specs.Signature.{Signature, fits, fits_term}
-use Rattle.pg_logic.specs.Kernel.{Pf, hyp, thm, andi, andl, andr, orl, orr, ore, impi, impe, fale, lem, alli, alle, exi, exe, reflexive, repl, ind, predi, prede, Fault, Premise, here, assuming, when, is_at, is_middle, is_reflexive, is_instance, unfolded, is_unfolded, first_fault, unless, fault_or, has_room, any_name, andi_line, andl_line, andr_line, orl_line, orr_line, ore_line, impi_line, impe_line, alli_line, alle_line, exi_line, exe_line, repl_line, ind_line, predi_line, prede_line, fault_of}
+use Rattle.pg_logic.specs.Kernel.{Pf, hyp, thm, andi, andl, andr, orl, orr, ore, impi, impe, fale, lem, alli, alle, exi, exe, reflexive, repl, ind, predi, prede, Fault, Premise, here, assuming, when, is_at, is_middle, is_reflexive, is_instance, unfolded, is_unfolded, first_fault, unless, fault_or, has_room, any_name, andi_line, andl_line, andr_line, orl_line, orr_line, ore_line, impi_line, impe_line, alli_line, alle_line, exi_line, exe_line, repl_line, ind_line, predi_line, prede_line, proof_nodes, fault_of}
 use Rattle.pg_logic.specs.Derivation.{Derives, hypothesis, by_axiom, renaming, and_intro, and_elim_left, and_elim_right, or_intro_left, or_intro_right, or_elim, imp_intro, imp_elim, falsum_elim, excluded_middle, all_intro, all_elim, ex_intro, ex_elim, eq_intro, eq_elim, by_induction, pred_intro, pred_elim}
 use Rattle.pg_logic.proofs.Stable.{same-true}
 
@@ -230,62 +230,62 @@ module _ (s : Signature) (Ax : Fm → Type 0) where
     pub derived : (p : Pf) (n : ℕ) (h : List Fm) (c : Fm) (k : ℕ) → Named p → fault_of s th p n h c k ≡ None → Derives s Ax n h c
     derived (hyp i) n h c k known e = from_hypothesis n h i c (unless_none _ k _ e)
     derived (thm i) n h c k known e = from_theorem th n h i c known (unless_none _ k _ e)
-    derived (fale p) n h c k known e = falsum_elim n h c (derived p n h falsum _ known e)
+    derived (fale p) n h c k known e = falsum_elim n h c (derived p n h falsum (k + 1) known e)
     derived lem n h c k known e = from_middle n h c (unless_none _ k _ e)
     derived reflexive n h c k known e = from_reflexive n h c (unless_none _ k _ e)
     derived (andl b p) n h c k known e =
         let y = found _ k _ _ e in
-        from_andl n h b c y.0 y.1 (derived p y.0.vars (h ++ y.0.extra) y.0.goal _ known y.2)
+        from_andl n h b c y.0 y.1 (derived p y.0.vars (h ++ y.0.extra) y.0.goal (k + 1) known y.2)
     derived (andr a p) n h c k known e =
         let y = found _ k _ _ e in
-        from_andr n h a c y.0 y.1 (derived p y.0.vars (h ++ y.0.extra) y.0.goal _ known y.2)
+        from_andr n h a c y.0 y.1 (derived p y.0.vars (h ++ y.0.extra) y.0.goal (k + 1) known y.2)
     derived (orl p) n h c k known e =
         let y = found _ k _ _ e in
-        from_orl n h c y.0 y.1 (derived p y.0.vars (h ++ y.0.extra) y.0.goal _ known y.2)
+        from_orl n h c y.0 y.1 (derived p y.0.vars (h ++ y.0.extra) y.0.goal (k + 1) known y.2)
     derived (orr p) n h c k known e =
         let y = found _ k _ _ e in
-        from_orr n h c y.0 y.1 (derived p y.0.vars (h ++ y.0.extra) y.0.goal _ known y.2)
+        from_orr n h c y.0 y.1 (derived p y.0.vars (h ++ y.0.extra) y.0.goal (k + 1) known y.2)
     derived (impi p) n h c k known e =
         let y = found _ k _ _ e in
-        from_impi n h c y.0 y.1 (derived p y.0.vars (h ++ y.0.extra) y.0.goal _ known y.2)
+        from_impi n h c y.0 y.1 (derived p y.0.vars (h ++ y.0.extra) y.0.goal (k + 1) known y.2)
     derived (alli p) n h c k known e =
         let y = found _ k _ _ e in
-        from_alli n h c y.0 y.1 (derived p y.0.vars (h ++ y.0.extra) y.0.goal _ known y.2)
+        from_alli n h c y.0 y.1 (derived p y.0.vars (h ++ y.0.extra) y.0.goal (k + 1) known y.2)
     derived (alle a t p) n h c k known e =
         let y = found _ k _ _ e in
-        from_alle n h a t c y.0 y.1 (derived p y.0.vars (h ++ y.0.extra) y.0.goal _ known y.2)
+        from_alle n h a t c y.0 y.1 (derived p y.0.vars (h ++ y.0.extra) y.0.goal (k + 1) known y.2)
     derived (exi t p) n h c k known e =
         let y = found _ k _ _ e in
-        from_exi n h t c y.0 y.1 (derived p y.0.vars (h ++ y.0.extra) y.0.goal _ known y.2)
+        from_exi n h t c y.0 y.1 (derived p y.0.vars (h ++ y.0.extra) y.0.goal (k + 1) known y.2)
     derived (predi p) n h c k known e =
         let y = found _ k _ _ e in
-        from_predi n h c y.0 y.1 (derived p y.0.vars (h ++ y.0.extra) y.0.goal _ known y.2)
+        from_predi n h c y.0 y.1 (derived p y.0.vars (h ++ y.0.extra) y.0.goal (k + 1) known y.2)
     derived (prede a p) n h c k known e =
         let y = found _ k _ _ e in
-        from_prede n h a c y.0 y.1 (derived p y.0.vars (h ++ y.0.extra) y.0.goal _ known y.2)
+        from_prede n h a c y.0 y.1 (derived p y.0.vars (h ++ y.0.extra) y.0.goal (k + 1) known y.2)
     derived (andi p q) n h c k known e =
         let y = found _ k _ _ e in
         let g = first_none _ _ y.2 in
-        from_andi n h c y.0 y.1 (derived p y.0.0.vars (h ++ y.0.0.extra) y.0.0.goal _ known.0 g.0) (derived q y.0.1.vars (h ++ y.0.1.extra) y.0.1.goal _ known.1 g.1)
+        from_andi n h c y.0 y.1 (derived p y.0.0.vars (h ++ y.0.0.extra) y.0.0.goal (k + 1) known.0 g.0) (derived q y.0.1.vars (h ++ y.0.1.extra) y.0.1.goal (k + 1 + proof_nodes p) known.1 g.1)
     derived (impe a p q) n h c k known e =
         let y = found _ k _ _ e in
         let g = first_none _ _ y.2 in
-        from_impe n h a c y.0 y.1 (derived p y.0.0.vars (h ++ y.0.0.extra) y.0.0.goal _ known.0 g.0) (derived q y.0.1.vars (h ++ y.0.1.extra) y.0.1.goal _ known.1 g.1)
+        from_impe n h a c y.0 y.1 (derived p y.0.0.vars (h ++ y.0.0.extra) y.0.0.goal (k + 1) known.0 g.0) (derived q y.0.1.vars (h ++ y.0.1.extra) y.0.1.goal (k + 1 + proof_nodes p) known.1 g.1)
     derived (exe a p q) n h c k known e =
         let y = found _ k _ _ e in
         let g = first_none _ _ y.2 in
-        from_exe n h a c y.0 y.1 (derived p y.0.0.vars (h ++ y.0.0.extra) y.0.0.goal _ known.0 g.0) (derived q y.0.1.vars (h ++ y.0.1.extra) y.0.1.goal _ known.1 g.1)
+        from_exe n h a c y.0 y.1 (derived p y.0.0.vars (h ++ y.0.0.extra) y.0.0.goal (k + 1) known.0 g.0) (derived q y.0.1.vars (h ++ y.0.1.extra) y.0.1.goal (k + 1 + proof_nodes p) known.1 g.1)
     derived (repl a t u p q) n h c k known e =
         let y = found _ k _ _ e in
         let g = first_none _ _ y.2 in
-        from_repl n h a t u c y.0 y.1 (derived p y.0.0.vars (h ++ y.0.0.extra) y.0.0.goal _ known.0 g.0) (derived q y.0.1.vars (h ++ y.0.1.extra) y.0.1.goal _ known.1 g.1)
+        from_repl n h a t u c y.0 y.1 (derived p y.0.0.vars (h ++ y.0.0.extra) y.0.0.goal (k + 1) known.0 g.0) (derived q y.0.1.vars (h ++ y.0.1.extra) y.0.1.goal (k + 1 + proof_nodes p) known.1 g.1)
     derived (ind a t p q) n h c k known e =
         let y = found _ k _ _ e in
         let g = first_none _ _ y.2 in
-        from_ind n h a t c y.0 y.1 (derived p y.0.0.vars (h ++ y.0.0.extra) y.0.0.goal _ known.0 g.0) (derived q y.0.1.vars (h ++ y.0.1.extra) y.0.1.goal _ known.1 g.1)
+        from_ind n h a t c y.0 y.1 (derived p y.0.0.vars (h ++ y.0.0.extra) y.0.0.goal (k + 1) known.0 g.0) (derived q y.0.1.vars (h ++ y.0.1.extra) y.0.1.goal (k + 1 + proof_nodes p) known.1 g.1)
     derived (ore a b p q r) n h c k known e =
         let y = found _ k _ _ e in
         let g = first_none _ _ y.2 in
         let j = first_none _ _ g.1 in
-        from_ore n h a b c y.0 y.1 (derived p y.0.0.vars (h ++ y.0.0.extra) y.0.0.goal _ known.0 g.0) (derived q y.0.1.vars (h ++ y.0.1.extra) y.0.1.goal _ known.1 j.0)
-        (derived r y.0.2.vars (h ++ y.0.2.extra) y.0.2.goal _ known.2 j.1)
+        from_ore n h a b c y.0 y.1 (derived p y.0.0.vars (h ++ y.0.0.extra) y.0.0.goal (k + 1) known.0 g.0) (derived q y.0.1.vars (h ++ y.0.1.extra) y.0.1.goal (k + 1 + proof_nodes p) known.1 j.0)
+        (derived r y.0.2.vars (h ++ y.0.2.extra) y.0.2.goal (k + 1 + proof_nodes p + proof_nodes q) known.2 j.1)

@@ -1,6 +1,6 @@
 use Rattle.std.proofs.Common.{rules, sym, suc, drop, get_or, length, subst, ◌-◌, ◌<◌, ◌≡◌, ◌++◌, ◌∷◌, [], ◌∙◌, ap}
 use Rattle.std.specs.Prelude.{Err, slice_index, vec_len}
-use Rattle.pg_logic.specs.Run.{Got, use_one, run, runs_of}
+use Rattle.pg_logic.specs.Valuing.{Got, use_one, run, runs_of}
 use Rattle.pg_terms.specs.View.{term}
 use Rattle.pg_arith.specs.Outcomes.{Answers}
 use Rattle.pg_arith.specs.View.{plain_functions}

@@ -1,6 +1,6 @@
 use Rattle.std.proofs.Common.{◌≡◌, ◌+◌, ◌*◌, ◌≤◌, [], ℕ, length, drop}
 use Rattle.std.specs.List.{All}
-use Rattle.pg_logic.specs.Run.{Got, run_recursed, runs_of}
+use Rattle.pg_logic.specs.Valuing.{Got, run_recursed, runs_of}
 use Rattle.pg_terms.specs.View.{term}
 use Rattle.pg_arith.specs.Postfix.{run_steps}
 use Rattle.pg_arith.specs.View.{plain_functions}
