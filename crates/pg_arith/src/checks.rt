@@ -12,18 +12,6 @@ use crate::fitting::{holds_of, takes};
 use crate::signature::{Function, Predicate};
 use pg_terms::{Formula, Term};
 
-/// Whether a function or one of its equations has this name.
-pub fn brings(declared: &Function, name: &str) -> bool
-    ensures { result ≡ list_any (bytes_eq name.now) (logic.names_in (function declared.now)) }
-{
-    match declared {
-        Function::Recursive(r) => {
-            name == r.name.as_str() || name == r.zero_name.as_str() || name == r.succ_name.as_str()
-        }
-        Function::Constant(c) => name == c.name.as_str() || name == c.equation_name.as_str(),
-    }
-}
-
 /// Whether a function of the list or one of its equations has this name.
 pub fn functions_bring(declared: &[Function], name: &str) -> bool
     ensures { result ≡ list_any (bytes_eq name.now) (flat_map logic.names_in (functions declared.now)) }
@@ -34,6 +22,18 @@ pub fn functions_bring(declared: &[Function], name: &str) -> bool
         }
     }
     false
+}
+
+/// Whether a function or one of its equations has this name.
+pub fn brings(declared: &Function, name: &str) -> bool
+    ensures { result ≡ list_any (bytes_eq name.now) (logic.names_in (function declared.now)) }
+{
+    match declared {
+        Function::Recursive(r) => {
+            name == r.name.as_str() || name == r.zero_name.as_str() || name == r.succ_name.as_str()
+        }
+        Function::Constant(c) => name == c.name.as_str() || name == c.equation_name.as_str(),
+    }
 }
 
 /// Whether a predicate of the list has this name.
@@ -67,6 +67,8 @@ pub fn undeclared(functions: &[Function], t: &Term) -> Option<u16>
     }
 }
 
+/// The first function of terms, from left to right and each in preorder, that is not declared or has
+/// another arity.
 #[cycle(undeclared)]
 fn undeclared_all(functions: &[Function], ts: &[Term]) -> Option<u16>
     ensures { result ≡ logic.first (logic.undeclared_all (plain_functions functions.now) (args ts.now)) }
@@ -129,6 +131,7 @@ pub fn loose(vars: u32, depth: u64, t: &Term) -> Option<u32>
     }
 }
 
+/// The first such variable of terms, from left to right and each in preorder.
 #[cycle(loose)]
 fn loose_all(vars: u32, depth: u64, ts: &[Term]) -> Option<u32>
     ensures { (d : ℕ) → depth ≡ min d (2 ^ 64 - 1) → result ≡ logic.first (logic.loose_all vars d (args ts.now)) }

@@ -49,125 +49,7 @@ impl From<AllocError> for DeclareFault {
     }
 }
 
-/// The first cause that holds: a name is taken, a number is used before it is declared, the arity
-/// is over the limit, a variable is loose.
-fn refusal_by(
-    taken: bool,
-    later: Option<u16>,
-    arity: u16,
-    astray: Option<u32>,
-) -> Option<DeclareFault>
-    ensures { result ≡ option_map fault (logic.refusal_by taken later arity astray) }
-{
-    if taken {
-        return Some(DeclareFault::NameTaken);
-    }
-    if let Some(id) = later {
-        return Some(DeclareFault::UsesLater { id });
-    }
-    if arity > ARITY_LIMIT {
-        return Some(DeclareFault::ArityOver { n: arity });
-    }
-    match astray {
-        None => None,
-        Some(id) => Some(DeclareFault::LooseVariable { id }),
-    }
-}
-
 impl Signature {
-    /// Whether a function, a predicate or an axiom has this name.
-    #[tactic(auto, using(crate::proofs::Lists::names))]
-    fn has_name(&self, name: &str) -> bool
-        ensures { result ≡ list_any (bytes_eq name.now) (logic.names_of (declarations self.now)) }
-    {
-        functions_bring(self.functions(), name)
-            || predicates_bring(self.predicates(), name)
-            || name == "succ_inj"
-            || name == "zero_ne_succ"
-    }
-
-    /// Whether one of two new names is taken, or they are equal.
-    fn two_clash(&self, a: &str, b: &str) -> bool
-        ensures { result ≡ logic.clash (logic.names_of (declarations self.now)) (a.now ∷ b.now ∷ []) }
-    {
-        a == b || self.has_name(a) || self.has_name(b)
-    }
-
-    /// Whether one of three new names is taken, or two of them are equal.
-    fn three_clash(&self, a: &str, b: &str, c: &str) -> bool
-        ensures { result ≡ logic.clash (logic.names_of (declarations self.now)) (a.now ∷ b.now ∷ c.now ∷ []) }
-    {
-        a == b || a == c || self.has_name(a) || self.two_clash(b, c)
-    }
-
-    /// Why a function by recursion is refused.
-    #[tactic(auto, using(crate::proofs::Lists::firsts))]
-    fn recursion_refusal(&self, r: &Recursion) -> Option<DeclareFault>
-        requires { 0 < r.now.arity }
-        ensures { result ≡ option_map fault (logic.function_refusal (declarations self.now) (function (Function.Recursive r.now))) }
-    {
-        let taken = self.three_clash(r.name.as_str(), r.zero_name.as_str(), r.succ_name.as_str());
-        let later = undeclared(self.functions(), r.base.get()).or(undeclared(
-            self.functions(),
-            r.step.get(),
-        ));
-        let astray = loose(u32::from(r.arity) - 1, 0, r.base.get()).or(loose(
-            u32::from(r.arity) + 1,
-            0,
-            r.step.get(),
-        ));
-        refusal_by(taken, later, r.arity, astray)
-    }
-
-    /// Why a constant is refused.
-    fn constant_refusal(&self, c: &Constant) -> Option<DeclareFault>
-        ensures { result ≡ option_map fault (logic.function_refusal (declarations self.now) (function (Function.Constant c.now))) }
-    {
-        let taken = self.two_clash(c.name.as_str(), c.equation_name.as_str());
-        let later = undeclared(self.functions(), c.body.get());
-        refusal_by(taken, later, 0, loose(0, 0, c.body.get()))
-    }
-
-    /// Why a predicate is refused.
-    fn predicate_refusal(&self, p: &Predicate) -> Option<DeclareFault>
-        ensures { result ≡ option_map fault (logic.predicate_refusal (declarations self.now) (predicate p.now)) }
-    {
-        let taken = self.has_name(p.name.as_str());
-        let later = undeclared_in(self.functions(), self.predicates(), p.body.get());
-        refusal_by(
-            taken,
-            later,
-            p.arity,
-            loose_in(u32::from(p.arity), 0, p.body.get()),
-        )
-    }
-
-    /// Puts one more function at the end, which nothing refuses.
-    fn add_function(&mut self, f: Function) -> Result<u16, AllocError>
-        requires parameters { logic.HasParameters (function f) }
-        requires room { length (declarations self.old).functions < 65535 }
-        requires no_refusal { logic.function_refusal (declarations self.old) (function f) ≡ None }
-        ensures ok { IfOk result (logic.AddsFunction (declarations self.old) (declarations self.new) (function f)) }
-        ensures kept { OnErr result (self.new ≡ self.old) }
-    {
-        let id = self.function_count();
-        self.functions.push(f)?;
-        Ok(id)
-    }
-
-    /// Puts one more predicate at the end, which nothing refuses.
-    fn add_predicate(&mut self, p: Predicate) -> Result<u16, AllocError>
-        requires next { (predicate p).functions_before ≡ length (declarations self.old).functions }
-        requires room { length (declarations self.old).predicates < 65535 }
-        requires no_refusal { logic.predicate_refusal (declarations self.old) (predicate p) ≡ None }
-        ensures ok { IfOk result (logic.AddsPredicate (declarations self.old) (declarations self.new) (predicate p)) }
-        ensures kept { OnErr result (self.new ≡ self.old) }
-    {
-        let id = self.predicate_count();
-        self.predicates.push(p)?;
-        Ok(id)
-    }
-
     /// Declares a function by recursion on the last of its `arity` arguments, and gives its number.
     /// `params` are the names of its parameters. `base` is its value at zero, over `Free(0)` to
     /// `Free(arity - 2)`; `step` is its value at a successor, and has besides `Free(arity - 1)` for
@@ -196,8 +78,7 @@ impl Signature {
             (logic.by_recursion name arity params.items (term base) (term step) zero_name succ_name))) }
         ensures kept { OnErr result (self.new ≡ self.old) }
     {
-        let base = Boxed::new(alloc, base)?;
-        let step = Boxed::new(alloc, step)?;
+        let (base, step) = boxed_pair(alloc, base, step)?;
         let recursion = Recursion {
             name,
             arity,
@@ -275,4 +156,130 @@ impl Signature {
             None => Ok(self.add_predicate(declared)?),
         }
     }
+
+    /// Why a function by recursion is refused.
+    #[tactic(auto, using(crate::proofs::Lists::firsts))]
+    fn recursion_refusal(&self, r: &Recursion) -> Option<DeclareFault>
+        requires { 0 < r.now.arity }
+        ensures { result ≡ option_map fault (logic.function_refusal (declarations self.now) (function (Function.Recursive r.now))) }
+    {
+        let taken = self.three_clash(r.name.as_str(), r.zero_name.as_str(), r.succ_name.as_str());
+        let later = undeclared(self.functions(), r.base.get()).or(undeclared(
+            self.functions(),
+            r.step.get(),
+        ));
+        let astray = loose(u32::from(r.arity) - 1, 0, r.base.get()).or(loose(
+            u32::from(r.arity) + 1,
+            0,
+            r.step.get(),
+        ));
+        refusal_by(taken, later, r.arity, astray)
+    }
+
+    /// Why a constant is refused.
+    fn constant_refusal(&self, c: &Constant) -> Option<DeclareFault>
+        ensures { result ≡ option_map fault (logic.function_refusal (declarations self.now) (function (Function.Constant c.now))) }
+    {
+        let taken = self.two_clash(c.name.as_str(), c.equation_name.as_str());
+        let later = undeclared(self.functions(), c.body.get());
+        refusal_by(taken, later, 0, loose(0, 0, c.body.get()))
+    }
+
+    /// Why a predicate is refused.
+    fn predicate_refusal(&self, p: &Predicate) -> Option<DeclareFault>
+        ensures { result ≡ option_map fault (logic.predicate_refusal (declarations self.now) (predicate p.now)) }
+    {
+        let taken = self.has_name(p.name.as_str());
+        let later = undeclared_in(self.functions(), self.predicates(), p.body.get());
+        refusal_by(
+            taken,
+            later,
+            p.arity,
+            loose_in(u32::from(p.arity), 0, p.body.get()),
+        )
+    }
+
+    /// Whether one of three new names is taken, or two of them are equal.
+    fn three_clash(&self, a: &str, b: &str, c: &str) -> bool
+        ensures { result ≡ logic.clash (logic.names_of (declarations self.now)) (a.now ∷ b.now ∷ c.now ∷ []) }
+    {
+        a == b || a == c || self.has_name(a) || self.two_clash(b, c)
+    }
+
+    /// Whether one of two new names is taken, or they are equal.
+    fn two_clash(&self, a: &str, b: &str) -> bool
+        ensures { result ≡ logic.clash (logic.names_of (declarations self.now)) (a.now ∷ b.now ∷ []) }
+    {
+        a == b || self.has_name(a) || self.has_name(b)
+    }
+
+    /// Whether a function, a predicate or an axiom has this name.
+    #[tactic(auto, using(crate::proofs::Lists::names))]
+    fn has_name(&self, name: &str) -> bool
+        ensures { result ≡ list_any (bytes_eq name.now) (logic.names_of (declarations self.now)) }
+    {
+        functions_bring(self.functions(), name)
+            || predicates_bring(self.predicates(), name)
+            || name == "succ_inj"
+            || name == "zero_ne_succ"
+    }
+
+    /// Puts one more function at the end, which nothing refuses.
+    fn add_function(&mut self, f: Function) -> Result<u16, AllocError>
+        requires parameters { logic.HasParameters (function f) }
+        requires room { length (declarations self.old).functions < 65535 }
+        requires no_refusal { logic.function_refusal (declarations self.old) (function f) ≡ None }
+        ensures ok { IfOk result (logic.AddsFunction (declarations self.old) (declarations self.new) (function f)) }
+        ensures kept { OnErr result (self.new ≡ self.old) }
+    {
+        let id = self.function_count();
+        self.functions.push(f)?;
+        Ok(id)
+    }
+
+    /// Puts one more predicate at the end, which nothing refuses.
+    fn add_predicate(&mut self, p: Predicate) -> Result<u16, AllocError>
+        requires next { (predicate p).functions_before ≡ length (declarations self.old).functions }
+        requires room { length (declarations self.old).predicates < 65535 }
+        requires no_refusal { logic.predicate_refusal (declarations self.old) (predicate p) ≡ None }
+        ensures ok { IfOk result (logic.AddsPredicate (declarations self.old) (declarations self.new) (predicate p)) }
+        ensures kept { OnErr result (self.new ≡ self.old) }
+    {
+        let id = self.predicate_count();
+        self.predicates.push(p)?;
+        Ok(id)
+    }
+}
+
+/// The first cause that holds: a name is taken, a number is used before it is declared, the arity
+/// is over the limit, a variable is loose.
+fn refusal_by(
+    taken: bool,
+    later: Option<u16>,
+    arity: u16,
+    astray: Option<u32>,
+) -> Option<DeclareFault>
+    ensures { result ≡ option_map fault (logic.refusal_by taken later arity astray) }
+{
+    if taken {
+        return Some(DeclareFault::NameTaken);
+    }
+    if let Some(id) = later {
+        return Some(DeclareFault::UsesLater { id });
+    }
+    if arity > ARITY_LIMIT {
+        return Some(DeclareFault::ArityOver { n: arity });
+    }
+    match astray {
+        None => None,
+        Some(id) => Some(DeclareFault::LooseVariable { id }),
+    }
+}
+
+/// Two terms, each in a box.
+fn boxed_pair(alloc: Global, s: Term, t: Term) -> Result<(Boxed<Term>, Boxed<Term>), AllocError>
+    ensures { IfOk result (λ p. (p.0 ≡ s) × (p.1 ≡ t)) }
+{
+    let s = Boxed::new(alloc, s)?;
+    Ok((s, Boxed::new(alloc, t)?))
 }

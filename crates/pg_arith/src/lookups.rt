@@ -7,59 +7,9 @@ ghost use Rattle.pg_terms.specs.View.{formula};
 ghost use Rattle.pg_arith.specs.View.{function, functions, predicates, declarations};
 
 use crate::signature::{Constant, Function, Predicate, Recursion, Signature};
-use pg_terms::{Formula, Name};
+use pg_terms::{Formula, Name, Term};
 use sqlite_items::{Boxed, Items};
 use std::alloc::{AllocError, Global};
-
-/// The name of a function.
-fn name_of(declared: &Function) -> &Name
-    ensures { result.now ≡ name_of (function declared.now) }
-{
-    match declared {
-        Function::Recursive(r) => &r.name,
-        Function::Constant(c) => &c.name,
-    }
-}
-
-/// How many arguments a function takes.
-fn arity_of(declared: &Function) -> u16
-    ensures { result ≡ arity_of (function declared.now) }
-{
-    match declared {
-        Function::Recursive(r) => r.arity,
-        Function::Constant(_) => 0,
-    }
-}
-
-/// The number of the first function of this name.
-fn function_place(declared: &[Function], name: &str) -> Option<u16>
-    requires { length declared.now < 2 ^ 16 }
-    ensures { result ≡ position (λ f. bytes_eq name.now (name_of f)) (functions declared.now) }
-{
-    let mut number: u16 = 0;
-    for f in declared {
-        if name == name_of(f).as_str() {
-            return Some(number);
-        }
-        number += 1;
-    }
-    None
-}
-
-/// The number of the first predicate of this name.
-fn predicate_place(declared: &[Predicate], name: &str) -> Option<u16>
-    requires { length declared.now < 2 ^ 16 }
-    ensures { result ≡ position (λ p. bytes_eq name.now p.name) (predicates declared.now) }
-{
-    let mut number: u16 = 0;
-    for p in declared {
-        if name == p.name.as_str() {
-            return Some(number);
-        }
-        number += 1;
-    }
-    None
-}
 
 #[tactic(auto, using(crate::proofs::Lists::reads))]
 impl Signature {
@@ -121,13 +71,80 @@ impl Signature {
     }
 }
 
-/// Equal names, in order.
-fn copied_names(alloc: Global, names: &[Name]) -> Result<Items<Name>, AllocError>
-    ensures { IfOk result (λ copies. copies ≡ names.now) }
+/// The name of a function.
+fn name_of(declared: &Function) -> &Name
+    ensures { result.now ≡ name_of (function declared.now) }
+{
+    match declared {
+        Function::Recursive(r) => &r.name,
+        Function::Constant(c) => &c.name,
+    }
+}
+
+/// How many arguments a function takes.
+fn arity_of(declared: &Function) -> u16
+    ensures { result ≡ arity_of (function declared.now) }
+{
+    match declared {
+        Function::Recursive(r) => r.arity,
+        Function::Constant(_) => 0,
+    }
+}
+
+/// The number of the first function of this name.
+fn function_place(declared: &[Function], name: &str) -> Option<u16>
+    requires { length declared.now < 2 ^ 16 }
+    ensures { result ≡ position (λ f. bytes_eq name.now (name_of f)) (functions declared.now) }
+{
+    let mut number: u16 = 0;
+    for f in declared {
+        if name == name_of(f).as_str() {
+            return Some(number);
+        }
+        number += 1;
+    }
+    None
+}
+
+/// The number of the first predicate of this name.
+fn predicate_place(declared: &[Predicate], name: &str) -> Option<u16>
+    requires { length declared.now < 2 ^ 16 }
+    ensures { result ≡ position (λ p. bytes_eq name.now p.name) (predicates declared.now) }
+{
+    let mut number: u16 = 0;
+    for p in declared {
+        if name == p.name.as_str() {
+            return Some(number);
+        }
+        number += 1;
+    }
+    None
+}
+
+impl Signature {
+    /// An equal signature. It fails only for want of memory.
+    pub fn copied(&self, alloc: Global) -> Result<Signature, AllocError>
+        ensures { IfOk result (λ copy. copy ≡ self.now) }
+    {
+        Ok(Signature {
+            functions: copied_functions(alloc, self.functions.as_slice())?,
+            predicates: copied_predicates(alloc, self.predicates.as_slice())?,
+            succ_inj: self.succ_inj.copied(alloc)?,
+            zero_ne_succ: self.zero_ne_succ.copied(alloc)?,
+        })
+    }
+}
+
+/// Equal functions, in order.
+fn copied_functions(alloc: Global, declared: &[Function]) -> Result<Items<Function>, AllocError>
+    ensures { IfOk result (λ copies. copies ≡ declared.now) }
 {
     let mut copies = Items::new(alloc);
-    for name in names {
-        copies.push(name.copied(alloc)?)?;
+    for f in declared {
+        copies.push(match f {
+            Function::Recursive(r) => Function::Recursive(copied_recursion(alloc, r)?),
+            Function::Constant(c) => Function::Constant(copied_constant(alloc, c)?),
+        })?;
     }
     Ok(copies)
 }
@@ -136,8 +153,8 @@ fn copied_names(alloc: Global, names: &[Name]) -> Result<Items<Name>, AllocError
 fn copied_recursion(alloc: Global, r: &Recursion) -> Result<Recursion, AllocError>
     ensures { IfOk result (λ copy. copy ≡ r.now) }
 {
-    let base = Boxed::new(alloc, r.base.get().copied(alloc)?)?;
-    let step = Boxed::new(alloc, r.step.get().copied(alloc)?)?;
+    let base = copied_box(alloc, r.base.get())?;
+    let step = copied_box(alloc, r.step.get())?;
     let params = copied_names(alloc, r.params.as_slice())?;
     Ok(Recursion {
         name: r.name.copied(alloc)?,
@@ -154,7 +171,7 @@ fn copied_recursion(alloc: Global, r: &Recursion) -> Result<Recursion, AllocErro
 fn copied_constant(alloc: Global, c: &Constant) -> Result<Constant, AllocError>
     ensures { IfOk result (λ copy. copy ≡ c.now) }
 {
-    let body = Boxed::new(alloc, c.body.get().copied(alloc)?)?;
+    let body = copied_box(alloc, c.body.get())?;
     Ok(Constant {
         name: c.name.copied(alloc)?,
         body,
@@ -162,16 +179,20 @@ fn copied_constant(alloc: Global, c: &Constant) -> Result<Constant, AllocError>
     })
 }
 
-/// Equal functions, in order.
-fn copied_functions(alloc: Global, declared: &[Function]) -> Result<Items<Function>, AllocError>
-    ensures { IfOk result (λ copies. copies ≡ declared.now) }
+/// An equal term, in a box of its own.
+fn copied_box(alloc: Global, t: &Term) -> Result<Boxed<Term>, AllocError>
+    ensures { IfOk result (λ copy. copy ≡ t.now) }
+{
+    Boxed::new(alloc, t.copied(alloc)?)
+}
+
+/// Equal names, in order.
+fn copied_names(alloc: Global, names: &[Name]) -> Result<Items<Name>, AllocError>
+    ensures { IfOk result (λ copies. copies ≡ names.now) }
 {
     let mut copies = Items::new(alloc);
-    for f in declared {
-        copies.push(match f {
-            Function::Recursive(r) => Function::Recursive(copied_recursion(alloc, r)?),
-            Function::Constant(c) => Function::Constant(copied_constant(alloc, c)?),
-        })?;
+    for name in names {
+        copies.push(name.copied(alloc)?)?;
     }
     Ok(copies)
 }
@@ -191,18 +212,4 @@ fn copied_predicates(alloc: Global, declared: &[Predicate]) -> Result<Items<Pred
         })?;
     }
     Ok(copies)
-}
-
-impl Signature {
-    /// An equal signature. It fails only for want of memory.
-    pub fn copied(&self, alloc: Global) -> Result<Signature, AllocError>
-        ensures { IfOk result (λ copy. copy ≡ self.now) }
-    {
-        Ok(Signature {
-            functions: copied_functions(alloc, self.functions.as_slice())?,
-            predicates: copied_predicates(alloc, self.predicates.as_slice())?,
-            succ_inj: self.succ_inj.copied(alloc)?,
-            zero_ne_succ: self.zero_ne_succ.copied(alloc)?,
-        })
-    }
 }

@@ -10,7 +10,7 @@ use sqlite_items::Items;
 use std::alloc::AllocError;
 
 /// A step in the valuing of a term.
-#[derive(Clone, Copy, Debug)]
+#[derive(Clone, Copy)]
 pub enum Step {
     /// The value of the free variable of this number.
     Variable(u32),
@@ -20,14 +20,6 @@ pub enum Step {
     AddOne,
     /// The function of this number at so many last values.
     Apply(u16, usize),
-}
-
-/// How many terms there are.
-#[tactic(auto, using(crate::proofs::Lists::reads))]
-fn count_of(ts: &[Term]) -> usize
-    ensures { result ≡ count (args ts.now) }
-{
-    ts.len()
 }
 
 /// Puts the steps of a term at the end: those of its parts from left to right, each part before
@@ -59,4 +51,12 @@ fn flatten_all(steps: &mut Items<Step>, ts: &[Term]) -> Result<(), AllocError>
         flatten(steps, t)?;
     }
     Ok(())
+}
+
+/// How many terms there are.
+#[tactic(auto, using(crate::proofs::Lists::reads))]
+fn count_of(ts: &[Term]) -> usize
+    ensures { result ≡ count (args ts.now) }
+{
+    ts.len()
 }

@@ -41,99 +41,28 @@ impl From<AllocError> for ValueFault {
     }
 }
 
-/// One more than a value, where that is within the limit.
-fn one_more(limit: u64, v: u64) -> Result<u64, ValueFault>
-    requires room { limit < 2 ^ 64 - 1 }
-    requires small { v ≤ limit }
-    ensures exact { (left : ℕ) → Leaves (runs.within limit (v + 1) left) result left }
-    ensures small { IfOk result (λ v. v ≤ limit) }
-{
-    let next = v + 1;
-    if next <= limit {
-        Ok(next)
-    } else {
-        Err(ValueFault::OverLimit { reached: next })
+impl Signature {
+    /// The value of a term without variables, where it is reached within `limit`, which is below
+    /// 2^64 - 1, by at most `budget` uses of defining equations. Arguments are valued from left to
+    /// right; a function by recursion at n is valued at 0, 1 and so on up to n; each use of a
+    /// defining equation counts one, before its right side is valued.
+    ///
+    /// It fails by what comes first: a value over the limit, a use over the budget, or want of
+    /// memory. See "Values" in docs/LOGIC.md.
+    pub fn value_of_closed(
+        &self,
+        alloc: Global,
+        t: &Term,
+        limit: u64,
+        budget: u64,
+    ) -> Result<u64, ValueFault>
+        requires { limit < 2 ^ 64 - 1 }
+        ensures truth { IfOk result (λ v. v ≡ value (functions_of (signature self.now).functions) [] [] (term t.now)) }
+        ensures exact { Answers (runs.run (runs.runs_of limit (signature self.now).functions) limit [] (term t.now) budget) result }
+    {
+        let mut left = budget;
+        value_of(alloc, self.functions(), limit, &[], t, &mut left)
     }
-}
-
-/// Counts one use of a defining equation.
-fn spend(left: &mut u64) -> Result<(), ValueFault>
-    ensures { MatchResult result (λ _. left.old ≡ left.new + 1) (λ e. (e ≡ OverBudget) × (left.old ≡ 0)) }
-{
-    if *left == 0 {
-        return Err(ValueFault::OverBudget);
-    }
-    *left -= 1;
-    Ok(())
-}
-
-/// The values of a step's variables: the arguments but the last, the predecessor, the value there.
-fn step_variables(alloc: Global, front: &[u64], m: u64, v: u64) -> Result<Items<u64>, AllocError>
-    ensures { IfOk result (λ vs. vs ≡ front.now ++ m ∷ v ∷ []) }
-{
-    let mut values = Items::from_slice(alloc, front)?;
-    values.push(m)?;
-    values.push(v)?;
-    Ok(values)
-}
-
-/// The number at a place, 0 past the end.
-fn number_at(numbers: &[u64], at: usize) -> u64
-    ensures value { result ≡ slice_index numbers.now at }
-    ensures small { (limit : ℕ) → All (λ v. v ≤ limit) numbers.now → result ≤ limit }
-{
-    if at < numbers.len() { numbers[at] } else { 0 }
-}
-
-/// The first `n` numbers, or all of them.
-fn front_of(numbers: &[u64], n: usize) -> &[u64]
-    ensures { result.now ≡ take n numbers.now }
-{
-    if n < numbers.len() {
-        &numbers[..n]
-    } else {
-        numbers
-    }
-}
-
-/// A function, and the functions declared before it.
-#[derive(Clone, Copy)]
-struct Declared<'a> {
-    before: &'a [Function],
-    function: &'a Function,
-}
-
-/// The function of this number.
-fn declaration_of(functions: &[Function], k: u16) -> Option<Declared<'_>>
-    ensures { MatchOption result
-        (IsUndeclared (plain_functions functions.now) k)
-        (λ d. IsDeclaredAt (plain_functions functions.now) k (plain_functions d.before.now) (function_of (function d.function.now))) }
-{
-    match at(functions, k as usize) {
-        None => None,
-        Some(function) => Some(Declared {
-            before: &functions[..k as usize],
-            function,
-        }),
-    }
-}
-
-/// Puts one more value at the end.
-fn put(values: &mut Vec<u64>, v: u64) -> Result<(), ValueFault>
-    ensures { MatchResult result (λ _. values.new.items ≡ values.old.items ++ v ∷ []) (λ e. e ≡ OutOfMemory) }
-{
-    match values.push(v) {
-        Ok(()) => Ok(()),
-        Err(_) => Err(ValueFault::OutOfMemory),
-    }
-}
-
-/// Puts a value in the place of those from place `at` on.
-fn put_from(values: &mut Vec<u64>, at: usize, v: u64) -> Result<(), ValueFault>
-    ensures { MatchResult result (λ _. values.new.items ≡ take at values.old.items ++ v ∷ []) (λ e. e ≡ OutOfMemory) }
-{
-    values.truncate(at);
-    put(values, v)
 }
 
 /// The value of a term whose free variables have the values `free`.
@@ -304,26 +233,97 @@ fn right_side(
     value_of(alloc, functions, limit, free, t, left)
 }
 
-impl Signature {
-    /// The value of a term without variables, where it is reached within `limit`, which is below
-    /// 2^64 - 1, by at most `budget` uses of defining equations. Arguments are valued from left to
-    /// right; a function by recursion at n is valued at 0, 1 and so on up to n; each use of a
-    /// defining equation counts one, before its right side is valued.
-    ///
-    /// It fails by what comes first: a value over the limit, a use over the budget, or want of
-    /// memory. See "Values" in docs/LOGIC.md.
-    pub fn value_of_closed(
-        &self,
-        alloc: Global,
-        t: &Term,
-        limit: u64,
-        budget: u64,
-    ) -> Result<u64, ValueFault>
-        requires { limit < 2 ^ 64 - 1 }
-        ensures truth { IfOk result (λ v. v ≡ value (functions_of (signature self.now).functions) [] [] (term t.now)) }
-        ensures exact { Answers (runs.run (runs.runs_of limit (signature self.now).functions) limit [] (term t.now) budget) result }
-    {
-        let mut left = budget;
-        value_of(alloc, self.functions(), limit, &[], t, &mut left)
+/// Counts one use of a defining equation.
+fn spend(left: &mut u64) -> Result<(), ValueFault>
+    ensures { MatchResult result (λ _. left.old ≡ left.new + 1) (λ e. (e ≡ OverBudget) × (left.old ≡ 0)) }
+{
+    if *left == 0 {
+        return Err(ValueFault::OverBudget);
+    }
+    *left -= 1;
+    Ok(())
+}
+
+/// The values of a step's variables: the arguments but the last, the predecessor, the value there.
+fn step_variables(alloc: Global, front: &[u64], m: u64, v: u64) -> Result<Items<u64>, AllocError>
+    ensures { IfOk result (λ vs. vs ≡ front.now ++ m ∷ v ∷ []) }
+{
+    let mut values = Items::from_slice(alloc, front)?;
+    values.push(m)?;
+    values.push(v)?;
+    Ok(values)
+}
+
+/// The first `n` numbers, or all of them.
+fn front_of(numbers: &[u64], n: usize) -> &[u64]
+    ensures { result.now ≡ take n numbers.now }
+{
+    if n < numbers.len() {
+        &numbers[..n]
+    } else {
+        numbers
+    }
+}
+
+/// The number at a place, 0 past the end.
+fn number_at(numbers: &[u64], at: usize) -> u64
+    ensures value { result ≡ slice_index numbers.now at }
+    ensures small { (limit : ℕ) → All (λ v. v ≤ limit) numbers.now → result ≤ limit }
+{
+    if at < numbers.len() { numbers[at] } else { 0 }
+}
+
+/// A function, and the functions declared before it.
+#[derive(Clone, Copy)]
+struct Declared<'a> {
+    before: &'a [Function],
+    function: &'a Function,
+}
+
+/// The function of this number.
+fn declaration_of(functions: &[Function], k: u16) -> Option<Declared<'_>>
+    ensures { MatchOption result
+        (IsUndeclared (plain_functions functions.now) k)
+        (λ d. IsDeclaredAt (plain_functions functions.now) k (plain_functions d.before.now) (function_of (function d.function.now))) }
+{
+    match at(functions, k as usize) {
+        None => None,
+        Some(function) => Some(Declared {
+            before: &functions[..k as usize],
+            function,
+        }),
+    }
+}
+
+/// Puts one more value at the end.
+fn put(values: &mut Vec<u64>, v: u64) -> Result<(), ValueFault>
+    ensures { MatchResult result (λ _. values.new.items ≡ values.old.items ++ v ∷ []) (λ e. e ≡ OutOfMemory) }
+{
+    match values.push(v) {
+        Ok(()) => Ok(()),
+        Err(_) => Err(ValueFault::OutOfMemory),
+    }
+}
+
+/// Puts a value in the place of those from place `at` on.
+fn put_from(values: &mut Vec<u64>, at: usize, v: u64) -> Result<(), ValueFault>
+    ensures { MatchResult result (λ _. values.new.items ≡ take at values.old.items ++ v ∷ []) (λ e. e ≡ OutOfMemory) }
+{
+    values.truncate(at);
+    put(values, v)
+}
+
+/// One more than a value, where that is within the limit.
+fn one_more(limit: u64, v: u64) -> Result<u64, ValueFault>
+    requires room { limit < 2 ^ 64 - 1 }
+    requires small { v ≤ limit }
+    ensures exact { (left : ℕ) → Leaves (runs.within limit (v + 1) left) result left }
+    ensures small { IfOk result (λ v. v ≤ limit) }
+{
+    let next = v + 1;
+    if next <= limit {
+        Ok(next)
+    } else {
+        Err(ValueFault::OverLimit { reached: next })
     }
 }
