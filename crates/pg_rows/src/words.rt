@@ -42,11 +42,6 @@ impl<'a> Words<'a> {
         }
     }
 
-    /// Whether there is no word more.
-    pub fn is_empty(&self) -> bool {
-        self.rest.is_empty()
-    }
-
     /// What is left of the text.
     pub fn rest(&self) -> &'a str {
         self.rest
