@@ -60,7 +60,7 @@ impl Model for Course {
 }
 
 impl Course {
-    ghost use Rattle.pg_worlds.specs.Course.{level_at, world_of, Needs, IsBefore, IsFirstMissing, IsLeastWon, IsOpen, IsPlan, AreOpen, HasUnwon, IsWaiting};
+    ghost use Rattle.pg_worlds.specs.Course.{level_at, least_won, world_of, Needs, IsBefore, IsFirstMissing, IsLeastWon, IsOpen, IsPlan, AreOpen, HasUnwon, IsWaiting};
     ghost use Rattle.pg_worlds.specs.View.{level_of, plan_of};
 
     /// The course of these worlds, in the order of the graph, and of these levels in the order of
@@ -90,15 +90,14 @@ impl Course {
         ensures err { IfErr result (IsOrderFault graph) }
     {
         let order = graph.order(alloc)?;
-        let worlds = graph.world_of_each(alloc, order.as_slice())?;
-        if items.len() > MOST_LEVELS || !have_worlds(items.as_slice(), worlds.as_slice()) {
+        if items.len() > MOST_LEVELS {
             return Ok(None);
         }
-        Ok(Some(Course {
-            graph,
-            order,
-            items,
-        }))
+        let worlds = graph.world_of_each(alloc, order.as_slice())?;
+        if !have_worlds(items.as_slice(), worlds.as_slice()) {
+            return Ok(None);
+        }
+        Ok(Some(Course::new(graph, order, items)))
     }
 
     /// How many levels there are.
@@ -107,50 +106,6 @@ impl Course {
         ensures plan { IsPlan self.now }
     {
         self.items.len()
-    }
-
-    // What the level at this place says.
-    pub(crate) fn items(&self, at: usize) -> &LevelItems
-        requires { at < length self.now.levels }
-        ensures { level_of result.now ≡ level_at self.now at }
-    {
-        &self.items[at]
-    }
-
-    // The world of the level at this place.
-    fn world(&self, at: usize) -> u16
-        requires { at < length self.now.levels }
-        ensures world { result ≡ world_of self.now at }
-        ensures below { result < 64 }
-    {
-        self.items[at].world
-    }
-
-    // Which worlds this world needs, directly or through others.
-    fn needed(&self, world: u16) -> [bool; MOST_WORLDS]
-        ensures needed { (k : ℕ) → IsTrue (flag result k) ↔ Needs self.now.worlds world k }
-        ensures plan { IsPlan self.now }
-    {
-        let mut needed = no_worlds();
-        self.graph.add_needs(world, &mut needed);
-        for at in (0..self.order.len()).rev() {
-            let behind = self.order[at];
-            if has_flag(&needed, behind as usize) {
-                self.graph.add_needs(behind, &mut needed);
-            }
-        }
-        needed
-    }
-
-    // Whether the level at place `at` stands before the one at place `level`, whose world needs `needed`.
-    fn is_before(&self, needed: &[bool], level: usize, at: usize) -> bool
-        requires needed { (k : ℕ) → IsTrue (flag needed.now k) ↔ Needs self.now.worlds (world_of self.now level) k }
-        requires level { level < length self.now.levels }
-        requires at { at < length self.now.levels }
-        ensures { IsTrue result ↔ IsBefore self.now level at }
-    {
-        let world = self.items(at).world;
-        has_flag(needed, world as usize) || (world == self.items(level).world && at < level)
     }
 
     /// Whether the level is open: all levels of all worlds that its world needs, directly or through others, and the
@@ -180,10 +135,38 @@ impl Course {
         None
     }
 
+    /// Whether the level at place `at` stands before the one at place `level`, whose world needs `needed`.
+    fn is_before(&self, needed: &[bool], level: usize, at: usize) -> bool
+        requires needed { (k : ℕ) → IsTrue (flag needed.now k) ↔ Needs self.now.worlds (world_of self.now level) k }
+        requires level { level < length self.now.levels }
+        requires at { at < length self.now.levels }
+        ensures { IsTrue result ↔ IsBefore self.now level at }
+    {
+        let world = self.items(at).world;
+        has_flag(needed, world as usize) || (world == self.items(level).world && at < level)
+    }
+
+    /// Which worlds this world needs, directly or through others.
+    fn needed(&self, world: u16) -> [bool; MOST_WORLDS]
+        ensures needed { (k : ℕ) → IsTrue (flag result k) ↔ Needs self.now.worlds world k }
+        ensures plan { IsPlan self.now }
+    {
+        let mut needed = no_worlds();
+        self.graph.add_needs(world, &mut needed);
+        for at in (0..self.order.len()).rev() {
+            let behind = self.order[at];
+            if has_flag(&needed, behind as usize) {
+                self.graph.add_needs(behind, &mut needed);
+            }
+        }
+        needed
+    }
+
     /// One flag for each level: just those levels are won that have to be, before this one is open.
     pub fn least_won(&self, alloc: Global, level: LevelId) -> Result<Vec<bool>, AllocError>
         requires { level.0 < length self.now.levels }
         ensures least { IfOk result (λ won. IsLeastWon self.now level.0 won.items) }
+        ensures flags { IfOk result (λ won. won.items ≡ least_won self.now level.0) }
         ensures earlier { IfOk result (λ won. (k : ℕ) → IsTrue (flag won.items k) → k < level.0) }
     {
         let needed = self.needed(self.items(level.0 as usize).world);
@@ -192,47 +175,6 @@ impl Course {
             won.push(self.is_before(&needed, level.0 as usize, at))?;
         }
         Ok(won)
-    }
-
-    // Sets the flag of the world of the level at this place, if the level isn't won.
-    fn mark_unwon(&self, won: &[bool], at: usize, worlds: &mut [bool; MOST_WORLDS])
-        requires won { length won.now ≡ length self.now.levels }
-        requires at { at < length self.now.levels }
-        ensures { (w : ℕ) → IsTrue (flag worlds.new w)
-            ↔ (IsTrue (flag worlds.old w) ⊎ ((world_of self.now at ≡ w) × (flag won.now at ≡ false))) }
-    {
-        if !won[at] {
-            worlds[self.world(at) as usize] = true;
-        }
-    }
-
-    // The worlds with a level that isn't won.
-    fn unwon_worlds(&self, won: &[bool]) -> [bool; MOST_WORLDS]
-        requires { length won.now ≡ length self.now.levels }
-        ensures { (w : ℕ) → IsTrue (flag result w) ↔ HasUnwon self.now won.now (length self.now.levels) w }
-    {
-        let mut unwon = no_worlds();
-        for at in 0..self.count() {
-            self.mark_unwon(won, at, &mut unwon);
-        }
-        unwon
-    }
-
-    // The worlds that need, directly or through others, a world with a level that isn't won.
-    fn waiting_worlds(&self, won: &[bool]) -> [bool; MOST_WORLDS]
-        requires { length won.now ≡ length self.now.levels }
-        ensures { (w : ℕ) → IsTrue (flag result w) ↔ IsWaiting self.now won.now w }
-    {
-        let unwon = self.unwon_worlds(won);
-        let mut waiting = no_worlds();
-        for at in 0..self.order.len() {
-            let world = self.order[at];
-            let needs = self.graph.needs(world);
-            if has_any_flag(&unwon, needs) || has_any_flag(&waiting, needs) {
-                waiting[world as usize] = true;
-            }
-        }
-        waiting
     }
 
     /// For each level, whether it is open: the answers of `is_open`, found in two passes over the
@@ -249,9 +191,67 @@ impl Course {
         }
         Ok(flags)
     }
+
+    /// The worlds that need, directly or through others, a world with a level that isn't won.
+    fn waiting_worlds(&self, won: &[bool]) -> [bool; MOST_WORLDS]
+        requires { length won.now ≡ length self.now.levels }
+        ensures { (w : ℕ) → IsTrue (flag result w) ↔ IsWaiting self.now won.now w }
+    {
+        let unwon = self.unwon_worlds(won);
+        let mut waiting = no_worlds();
+        for at in 0..self.order.len() {
+            let world = self.order[at];
+            let needs = self.graph.needs(world);
+            if has_any_flag(&unwon, needs) || has_any_flag(&waiting, needs) {
+                waiting[world as usize] = true;
+            }
+        }
+        waiting
+    }
+
+    /// The worlds with a level that isn't won.
+    fn unwon_worlds(&self, won: &[bool]) -> [bool; MOST_WORLDS]
+        requires { length won.now ≡ length self.now.levels }
+        ensures { (w : ℕ) → IsTrue (flag result w) ↔ HasUnwon self.now won.now (length self.now.levels) w }
+    {
+        let mut unwon = no_worlds();
+        for at in 0..self.count() {
+            self.mark_unwon(won, at, &mut unwon);
+        }
+        unwon
+    }
+
+    /// Sets the flag of the world of the level at this place, if the level isn't won.
+    fn mark_unwon(&self, won: &[bool], at: usize, worlds: &mut [bool; MOST_WORLDS])
+        requires won { length won.now ≡ length self.now.levels }
+        requires at { at < length self.now.levels }
+        ensures { (w : ℕ) → IsTrue (flag worlds.new w)
+            ↔ (IsTrue (flag worlds.old w) ⊎ ((world_of self.now at ≡ w) × (flag won.now at ≡ false))) }
+    {
+        if !won[at] {
+            worlds[self.world(at) as usize] = true;
+        }
+    }
+
+    /// What the level at this place says.
+    pub(crate) fn items(&self, at: usize) -> &LevelItems
+        requires { at < length self.now.levels }
+        ensures { level_of result.now ≡ level_at self.now at }
+    {
+        &self.items[at]
+    }
+
+    /// The world of the level at this place.
+    fn world(&self, at: usize) -> u16
+        requires { at < length self.now.levels }
+        ensures world { result ≡ world_of self.now at }
+        ensures below { result < 64 }
+    {
+        self.items[at].world
+    }
 }
 
-// Whether these levels are of these worlds, one by one.
+/// Whether these levels are of these worlds, one by one.
 fn have_worlds(items: &[LevelItems], worlds: &[u16]) -> bool
     ensures { IsTrue result ↔ (map (λ (i : LevelItems). i.world) items.now ≡ worlds.now) }
 {

@@ -96,7 +96,7 @@ impl Unlocked {
         self.within(alloc, course.items(level.0 as usize))
     }
 
-    // What the player has in a level that says this.
+    /// What the player has in a level that says this.
     fn within(&self, alloc: Global, item: &LevelItems) -> Result<Available, AllocError>
         ensures { IfOk result (λ a. inventory a ≡ within (level_of item.now) (inventory self.now)) }
     {
@@ -125,7 +125,7 @@ impl Unlocked {
 impl Available {
     ghost use Rattle.pg_worlds.specs.Inventory.{inventory, sampled_only};
 
-    // Takes away the statements of levels that have no sample.
+    /// Takes away the statements of levels that have no sample.
     fn keep_sampled(&mut self, course: &Course)
         ensures { inventory self.new ≡ sampled_only course.now (inventory self.old) }
     {
@@ -153,7 +153,7 @@ impl Available {
 }
 
 ghost use Rattle.pg_worlds.specs.View.{level_of};
-ghost use Rattle.pg_worlds.specs.Inventory.{available, has_move, inventory, is_allowed, sampled_only, tactic_within, theorem_within, unlocked};
+ghost use Rattle.pg_worlds.specs.Inventory.{available, has_move, inventory, is_allowed, least_available, sampled_only, tactic_within, theorem_within, unlocked};
 ghost use Rattle.pg_worlds.specs.Course.{IsLeastWon};
 ghost use Rattle.pg_worlds.specs.declared.tactic_name.TacticName.{TacticName};
 
@@ -165,7 +165,8 @@ pub fn least_available(
     level: LevelId,
 ) -> Result<Available, AllocError>
     requires { level.0 < length course.now.levels }
-    ensures { IfOk result
+    ensures least { IfOk result (λ a. inventory a ≡ least_available course.now level.0) }
+    ensures won { IfOk result
         (λ a. (won : List Bool) × IsLeastWon course.now level.0 won × (inventory a ≡ sampled_only course.now (available course.now won level.0))) }
 {
     let won = course.least_won(alloc, level)?;
@@ -174,7 +175,7 @@ pub fn least_available(
     Ok(least)
 }
 
-// What is unlocked where just these levels are won.
+/// What is unlocked where just these levels are won.
 fn unlocked_at(alloc: Global, course: &Course, won: &[bool]) -> Result<Unlocked, AllocError>
     requires { length won.now ≡ length course.now.levels }
     ensures { IfOk result (λ u. inventory u ≡ unlocked course.now won.now) }
@@ -188,7 +189,7 @@ fn unlocked_at(alloc: Global, course: &Course, won: &[bool]) -> Result<Unlocked,
     Ok(unlocked)
 }
 
-// The moves of a level, from the unlocked ones.
+/// The moves of a level, from the unlocked ones.
 fn moves_within(unlocked: [bool; MOVES], item: &LevelItems) -> [bool; MOVES]
     ensures { (t : TacticName) → flag result (place_of t) ≡ tactic_within (level_of item.now) (λ s. flag unlocked (place_of s)) t }
 {
@@ -198,7 +199,7 @@ fn moves_within(unlocked: [bool; MOVES], item: &LevelItems) -> [bool; MOVES]
     allowed_moves(moves, &item.only_tactics)
 }
 
-// The theorems of a level, from the unlocked ones.
+/// The theorems of a level, from the unlocked ones.
 fn theorems_within(
     alloc: Global,
     unlocked: Vec<bool>,
@@ -214,7 +215,7 @@ fn theorems_within(
     Ok(allowed)
 }
 
-// The moves that an Only command lets through.
+/// The moves that an Only command lets through.
 fn allowed_moves(moves: [bool; MOVES], only: &Option<Vec<TacticName>>) -> [bool; MOVES]
     ensures { (t : TacticName) → flag result (place_of t) ≡ (flag moves (place_of t) && is_allowed has_move (option_map (λ v. v.items) only.now) t) }
 {
@@ -226,7 +227,7 @@ fn allowed_moves(moves: [bool; MOVES], only: &Option<Vec<TacticName>>) -> [bool;
     kept
 }
 
-// The theorems that an Only command lets through.
+/// The theorems that an Only command lets through.
 fn allowed_theorems(
     alloc: Global,
     theorems: Vec<bool>,
