@@ -109,7 +109,8 @@ impl Course {
     }
 
     /// Whether the level is open: all levels of all worlds that its world needs, directly or through others, and the
-    /// earlier levels of its world are won. `won` has one flag for each level. Takes no memory.
+    /// earlier levels of its world are won. `won` has one flag for each level. Takes no memory. The rule stands in
+    /// docs/GAME-TEXT.md, "Worlds, and what is open".
     pub fn is_open(&self, won: &[bool], level: LevelId) -> bool
         requires won { length won.now ≡ length self.now.levels }
         requires level { level.0 < length self.now.levels }
@@ -162,7 +163,8 @@ impl Course {
         needed
     }
 
-    /// One flag for each level: just those levels are won that have to be, before this one is open.
+    /// One flag for each level: just those levels are won that have to be, before this one is open. `AllocError` comes
+    /// where there is no memory.
     pub fn least_won(&self, alloc: Global, level: LevelId) -> Result<Vec<bool>, AllocError>
         requires { level.0 < length self.now.levels }
         ensures least { IfOk result (λ won. IsLeastWon self.now level.0 won.items) }
@@ -178,7 +180,7 @@ impl Course {
     }
 
     /// For each level, whether it is open: the answers of `is_open`, found in two passes over the
-    /// levels. `won` has one flag for each level.
+    /// levels. `won` has one flag for each level. `AllocError` comes where there is no memory.
     pub fn open_levels(&self, alloc: Global, won: &[bool]) -> Result<Vec<bool>, AllocError>
         requires { length won.now ≡ length self.now.levels }
         ensures { IfOk result (λ flags. AreOpen self.now won.now flags.items) }

@@ -59,7 +59,8 @@ impl Unlocked {
         })
     }
 
-    /// Adds what a won level unlocks: its `NewTactic`, its `NewTheorem` and its own statement. Without memory nothing is added.
+    /// Adds what a won level unlocks: its `NewTactic`, its `NewTheorem` and its own statement. Without memory nothing
+    /// is added. The rules stand in docs/GAME-TEXT.md, "What a player has".
     pub fn add_won(
         &mut self,
         alloc: Global,
@@ -82,7 +83,8 @@ impl Unlocked {
     }
 
     /// What the player has in this level: the unlocked together with the level's own New moves and theorems, without its
-    /// Disabled ones; where an Only command stands, only what it names; never the level's own statement.
+    /// Disabled ones; where an Only command stands, only what it names; never the level's own statement. `AllocError`
+    /// comes where there is no memory.
     pub fn available(
         &self,
         alloc: Global,
@@ -94,17 +96,6 @@ impl Unlocked {
         ensures won { IfOk result (λ a. (won : List Bool) → inventory self.now ≡ unlocked course.now won → inventory a ≡ available course.now won level.0) }
     {
         self.within(alloc, course.items(level.0 as usize))
-    }
-
-    /// What the player has in a level that says this.
-    fn within(&self, alloc: Global, item: &LevelItems) -> Result<Available, AllocError>
-        ensures { IfOk result (λ a. inventory a ≡ within (level_of item.now) (inventory self.now)) }
-    {
-        let theorems = self.theorems.as_slice().to_vec(alloc)?;
-        Ok(Available {
-            tactics: moves_within(self.tactics, item),
-            theorems: theorems_within(alloc, theorems, item)?,
-        })
     }
 
     /// Whether the move is unlocked. Takes no memory.
@@ -120,22 +111,21 @@ impl Unlocked {
     {
         has_flag(&self.theorems, id as usize)
     }
+
+    /// What the player has in a level that says this.
+    fn within(&self, alloc: Global, item: &LevelItems) -> Result<Available, AllocError>
+        ensures { IfOk result (λ a. inventory a ≡ within (level_of item.now) (inventory self.now)) }
+    {
+        let theorems = self.theorems.as_slice().to_vec(alloc)?;
+        Ok(Available {
+            tactics: moves_within(self.tactics, item),
+            theorems: theorems_within(alloc, theorems, item)?,
+        })
+    }
 }
 
 impl Available {
     ghost use Rattle.pg_worlds.specs.Inventory.{inventory, sampled_only};
-
-    /// Takes away the statements of levels that have no sample.
-    fn keep_sampled(&mut self, course: &Course)
-        ensures { inventory self.new ≡ sampled_only course.now (inventory self.old) }
-    {
-        for at in 0..course.count() {
-            let item = course.items(at);
-            if !item.sampled {
-                take_out(&mut self.theorems, [item.own].as_slice());
-            }
-        }
-    }
 
     /// Whether the player has the move in the level. Takes no memory.
     pub fn has_tactic(&self, name: TacticName) -> bool
@@ -150,6 +140,18 @@ impl Available {
     {
         has_flag(&self.theorems, id as usize)
     }
+
+    /// Takes away the statements of levels that have no sample.
+    fn keep_sampled(&mut self, course: &Course)
+        ensures { inventory self.new ≡ sampled_only course.now (inventory self.old) }
+    {
+        for at in 0..course.count() {
+            let item = course.items(at);
+            if !item.sampled {
+                take_out(&mut self.theorems, [item.own].as_slice());
+            }
+        }
+    }
 }
 
 ghost use Rattle.pg_worlds.specs.View.{level_of};
@@ -158,7 +160,7 @@ ghost use Rattle.pg_worlds.specs.Course.{IsLeastWon};
 ghost use Rattle.pg_worlds.specs.declared.tactic_name.TacticName.{TacticName};
 
 /// The least that any player has in this level who may play it: what is available where just those levels are won that
-/// have to be, without the statements of levels that have no sample.
+/// have to be, without the statements of levels that have no sample. `AllocError` comes where there is no memory.
 pub fn least_available(
     alloc: Global,
     course: &Course,
@@ -199,6 +201,18 @@ fn moves_within(unlocked: [bool; MOVES], item: &LevelItems) -> [bool; MOVES]
     allowed_moves(moves, &item.only_tactics)
 }
 
+/// The moves that an Only command lets through.
+fn allowed_moves(moves: [bool; MOVES], only: &Option<Vec<TacticName>>) -> [bool; MOVES]
+    ensures { (t : TacticName) → flag result (place_of t) ≡ (flag moves (place_of t) && is_allowed has_move (option_map (λ v. v.items) only.now) t) }
+{
+    let Some(named) = only else {
+        return moves;
+    };
+    let mut kept = [false; MOVES];
+    keep_named(&moves, named.as_slice(), &mut kept);
+    kept
+}
+
 /// The theorems of a level, from the unlocked ones.
 fn theorems_within(
     alloc: Global,
@@ -213,18 +227,6 @@ fn theorems_within(
     let mut allowed = allowed_theorems(alloc, theorems, &item.only_theorems)?;
     take_out(&mut allowed, [item.own].as_slice());
     Ok(allowed)
-}
-
-/// The moves that an Only command lets through.
-fn allowed_moves(moves: [bool; MOVES], only: &Option<Vec<TacticName>>) -> [bool; MOVES]
-    ensures { (t : TacticName) → flag result (place_of t) ≡ (flag moves (place_of t) && is_allowed has_move (option_map (λ v. v.items) only.now) t) }
-{
-    let Some(named) = only else {
-        return moves;
-    };
-    let mut kept = [false; MOVES];
-    keep_named(&moves, named.as_slice(), &mut kept);
-    kept
 }
 
 /// The theorems that an Only command lets through.
