@@ -17,7 +17,7 @@ use Rattle.pg_script.specs.declared.span.Until.{Until}
 use Rattle.pg_script.specs.declared.span.Until.TheVariants as until
 use Rattle.pg_script.specs.Data.{Part, Expression}
 use Rattle.pg_script.specs.Marks.{mark, place}
-use Rattle.pg_script.specs.Lines.{Read, and_then, with_first, stops, may_end, more, length_until, part_of, some_part, part_at, arg_step, args_from, with_name, after_close, closed, expr_at}
+use Rattle.pg_script.specs.Lines.{Read, and_then, with_first, stops, may_end, more, length_until, part_of, some_part, past_part, closes_first, part_at, arg_step, args_from, with_name, after_close, closed, expr_at}
 use Rattle.pg_script.proofs.Standing.{At, Stands, stands_map, stands_behind, Inline, inline_append, Reader, Fit, Takes, Reaches, IsSome, Whatever, PieceAnswer, Piece, HeadPiece, piece_head, same_piece_answer, chained, Leads, lead_by}
 use Rattle.pg_script.proofs.Found.{clash, inj}
 
@@ -80,17 +80,23 @@ number-apart a b h le = grind (arith, nat_tests, h, le)
 number-more : (a k : ℕ) → ((a + suc k) == a) ≡ false
 number-more a k = grind (arith, nat_tests)
 
-abbrev mark-step : (base depth at : ℕ) → Mark → (same deeper outer : Read ℕ) → Read ℕ
-mark-step base depth at m same deeper outer = elim m [
+abbrev close-mark : Mark → Bool
+close-mark m = elim m [ Close ↦ true | _ ↦ false ]
+
+zero-ok : (n : ℕ) → (let r : Read ℕ = Ok 0 in r) ≡ Ok (suc n) → ⊥
+zero-ok n h = cc
+
+abbrev mark-step : Until → (base depth at : ℕ) → Mark → (same deeper outer : Read ℕ) → Read ℕ
+mark-step u base depth at m same deeper outer = elim m [
   | Open ↦ if nat_le 100 depth then Err (Deep at) else more 1 deeper
-  | Close ↦ if depth == base then Err (Expected at wanted.SignOrEnd) else more 1 outer
+  | Close ↦ if depth == base then Err (Expected at (past_part u)) else more 1 outer
   | _ ↦ more 1 same
 ]
 
 stop-read : (u : Until) (end base depth : ℕ) (tail : List Word) → (depth == base) ≡ true → Stop u tail → length_until u end base depth tail ≡ Ok 0
-stop-read u end base depth [] e s = ap (λ c. if c then Ok 0 else Err (Expected end wanted.SignOrEnd)) (and-true (depth == base) (may_end u) e s)
+stop-read u end base depth [] e s = ap (λ c. if c then Ok 0 else Err (Expected end wanted.CloseParen)) (and-true (depth == base) (may_end u) e s)
 stop-read u end base depth (w ∷ ws) e s =
-    ap (λ c. if c then Ok 0 else mark-step base depth w.at (mark w) (length_until u end base depth ws) (length_until u end base (depth + 1) ws) (length_until u end base (depth - 1) ws)) (and-true (depth == base) (stops u (mark w)) e s)
+    ap (λ c. if c then Ok 0 else mark-step u base depth w.at (mark w) (length_until u end base depth ws) (length_until u end base (depth + 1) ws) (length_until u end base (depth - 1) ws)) (and-true (depth == base) (stops u (mark w)) e s)
 
 close-read : (u : Until) (end base k : ℕ) (tail : List Word) → Stop u tail → length_until u end base (base + k) (closers k ++ tail) ≡ Ok k
 close-read u end base zero tail s = stop-read u end base (base + 0) tail (let e : base + 0 ≡ base = omega arith in ap (λ z. z == base) e ∙ same-number base) s
@@ -98,8 +104,8 @@ close-read u end base (suc k) tail s =
     let d = number-more base k in
     let e : base + suc k - 1 ≡ base + k = omega arith in
     let r = closers k ++ tail in
-    ap (λ c. if c && stops u Close then Ok 0 else (if (base + suc k) == base then Err (Expected 0 wanted.SignOrEnd) else more 1 (length_until u end base (base + suc k - 1) r))) d
-    ∙ ap (λ c. if c then Err (Expected 0 wanted.SignOrEnd) else more 1 (length_until u end base (base + suc k - 1) r)) d
+    ap (λ c. if c && stops u Close then Ok 0 else (if (base + suc k) == base then Err (Expected 0 (past_part u)) else more 1 (length_until u end base (base + suc k - 1) r))) d
+    ∙ ap (λ c. if c then Err (Expected 0 (past_part u)) else more 1 (length_until u end base (base + suc k - 1) r)) d
     ∙ ap (λ n. more 1 (length_until u end base n r)) e
     ∙ ap (more 1) (close-read u end base k tail s)
     ∙ (let f : 1 + k ≡ suc k = omega arith in ap (λ n. Ok n) f)
@@ -136,8 +142,8 @@ abbrev LengthAt : Until → (base : ℕ) → (depth end : ℕ) → List Word →
 LengthAt u base depth end ws = LengthAnswer u base depth end ws (length_until u end base depth ws)
 
 head-mark : (u : Until) (base depth at end : ℕ) (m : Mark) (ws : List Word) → base ≤ depth → ((d : ℕ) → base ≤ d → LengthAt u base d end ws)
-    → HeadLength u (λ n xs. mark-step base depth at m (length_until u n base depth xs) (length_until u n base (depth + 1) xs) (length_until u n base (depth - 1) xs)) at end ws
-    (mark-step base depth at m (length_until u end base depth ws) (length_until u end base (depth + 1) ws) (length_until u end base (depth - 1) ws))
+    → HeadLength u (λ n xs. mark-step u base depth at m (length_until u n base depth xs) (length_until u n base (depth + 1) xs) (length_until u n base (depth - 1) xs)) at end ws
+    (mark-step u base depth at m (length_until u end base depth ws) (length_until u end base (depth + 1) ws) (length_until u end base (depth - 1) ws))
 head-mark u base depth at end Open ws le rec =
     elim (nat_le 100 depth) as (λ c. HeadLength u (λ n xs. if c then Err (Deep at) else more 1 (length_until u n base (depth + 1) xs)) at end ws (if c then Err (Deep at) else more 1 (length_until u end base (depth + 1) ws))) [
       | true ↦ inl refl
@@ -145,7 +151,7 @@ head-mark u base depth at end Open ws le rec =
     ]
 head-mark u base depth at end Close ws le rec =
     elim (depth == base) as (λ c. (depth == base) ≡ c
-    → HeadLength u (λ n xs. if c then Err (Expected at wanted.SignOrEnd) else more 1 (length_until u n base (depth - 1) xs)) at end ws (if c then Err (Expected at wanted.SignOrEnd) else more 1 (length_until u end base (depth - 1) ws))) [
+    → HeadLength u (λ n xs. if c then Err (Expected at (past_part u)) else more 1 (length_until u n base (depth - 1) xs)) at end ws (if c then Err (Expected at (past_part u)) else more 1 (length_until u end base (depth - 1) ws))) [
       | true ↦ λ e. inl refl
       | false ↦ λ e. head-more u base (depth - 1) at end ws (length_until u end base (depth - 1) ws) (rec (depth - 1) (omega (arith, number-apart depth base e le)))
     ] refl
@@ -170,18 +176,18 @@ by-length-head u base depth end w ws (Err e) le (inr h) = inr h
 
 pub until_answer : (u : Until) (base depth end : ℕ) (ws : List Word) → base ≤ depth → LengthAnswer u base depth end ws (length_until u end base depth ws)
 until_answer u base depth end [] le =
-    elim ((depth == base) && may_end u) as (λ c. ((depth == base) && may_end u) ≡ c → LengthAnswer u base depth end [] (if c then Ok 0 else Err (Expected end wanted.SignOrEnd))) [
+    elim ((depth == base) && may_end u) as (λ c. ((depth == base) && may_end u) ≡ c → LengthAnswer u base depth end [] (if c then Ok 0 else Err (Expected end wanted.CloseParen))) [
       | true ↦ λ e. ([], [], refl, and-right (depth == base) (may_end u) e, refl, λ n tail s. stop-read u n base depth tail (and-left (depth == base) (may_end u) e) s)
       | false ↦ λ e. (refl, missing-closes u base depth le)
     ] refl
 until_answer u base depth end (w ∷ ws) le =
     elim ((depth == base) && stops u (mark w)) as (λ c. ((depth == base) && stops u (mark w)) ≡ c
-    → LengthAnswer u base depth end (w ∷ ws) (if c then Ok 0 else mark-step base depth w.at (mark w) (length_until u end base depth ws) (length_until u end base (depth + 1) ws) (length_until u end base (depth - 1) ws))) [
+    → LengthAnswer u base depth end (w ∷ ws) (if c then Ok 0 else mark-step u base depth w.at (mark w) (length_until u end base depth ws) (length_until u end base (depth + 1) ws) (length_until u end base (depth - 1) ws))) [
       | true ↦ λ e. ([], w ∷ ws, refl, and-right (depth == base) (stops u (mark w)) e, refl, λ n tail s. stop-read u n base depth tail (and-left (depth == base) (stops u (mark w)) e) s)
       | false ↦ λ e.
-          let P : Bool → Type 0 = λ c. HeadLength u (λ n xs. if c then Ok 0 else mark-step base depth w.at (mark w) (length_until u n base depth xs) (length_until u n base (depth + 1) xs) (length_until u n base (depth - 1) xs)) w.at end ws
-          (mark-step base depth w.at (mark w) (length_until u end base depth ws) (length_until u end base (depth + 1) ws) (length_until u end base (depth - 1) ws)) in
-          by-length-head u base depth end w ws (mark-step base depth w.at (mark w) (length_until u end base depth ws) (length_until u end base (depth + 1) ws) (length_until u end base (depth - 1) ws)) le
+          let P : Bool → Type 0 = λ c. HeadLength u (λ n xs. if c then Ok 0 else mark-step u base depth w.at (mark w) (length_until u n base depth xs) (length_until u n base (depth + 1) xs) (length_until u n base (depth - 1) xs)) w.at end ws
+          (mark-step u base depth w.at (mark w) (length_until u end base depth ws) (length_until u end base (depth + 1) ws) (length_until u end base (depth - 1) ws)) in
+          by-length-head u base depth end w ws (mark-step u base depth w.at (mark w) (length_until u end base depth ws) (length_until u end base (depth + 1) ws) (length_until u end base (depth - 1) ws)) le
           (subst P (sym e) (head-mark u base depth w.at end (mark w) ws le (λ d h. until_answer u base d end ws h)))
     ] refl
 
@@ -195,9 +201,27 @@ some-part what end v vs tail =
 abbrev pub part_reader : Wanted → Until → Reader (Part × List Word)
 part_reader what u room end ws = part_at what u end ws
 
+-- a part that has a token doesn't begin with a closing parenthesis
+open-mark : (u : Until) (at : ℕ) (m : Mark) (same deeper outer : Read ℕ) (n : ℕ) → (if stops u m then Ok 0 else mark-step u 0 0 at m same deeper outer) ≡ Ok (suc n) → close-mark m ≡ false
+open-mark until.Close at Close same deeper outer n h = absurd (zero-ok n h)
+open-mark until.Comma at Close same deeper outer n h = absurd (clash (Expected at wanted.CommaOrEnd) (suc n) h)
+open-mark until.Assign at Close same deeper outer n h = absurd (clash (Expected at wanted.AssignOrEnd) (suc n) h)
+open-mark until.End at Close same deeper outer n h = absurd (clash (Expected at wanted.EndOfItem) (suc n) h)
+open-mark u at m same deeper outer n h = refl
+
+open-first : (u : Until) (end : ℕ) (w : Word) (ws : List Word) (n : ℕ) → length_until u end 0 0 (w ∷ ws) ≡ Ok (suc n) → closes_first (w ∷ ws) ≡ false
+open-first u end w ws n h = open-mark u w.at (mark w) (length_until u end 0 0 ws) (length_until u end 0 1 ws) (length_until u end 0 0 ws) n h
+
 part-takes : (what : Wanted) (u : Until) (end : ℕ) (v : Word) (vs tail : List Word) → length_until u end 0 0 ((v ∷ vs) ++ tail) ≡ Ok (suc (length vs)) → Takes (part_reader what u) (λ x. Unit {0}) end (v ∷ vs) tail
-part-takes what u end v vs tail is =
-    (0, part_of end (suc (length vs)) (v ∷ vs ++ tail), tt, λ room le. ap (λ r. and_then r (λ n. some_part what end n (v ∷ vs ++ tail))) is ∙ some-part what end v vs tail)
+part-takes what u end v vs tail is = (
+  0,
+  part_of end (suc (length vs)) (v ∷ vs ++ tail),
+  tt,
+  λ room le.
+      ap (λ b. if b then Err (Expected v.at what) else and_then (length_until u end 0 0 (v ∷ vs ++ tail)) (λ n. some_part what end n (v ∷ vs ++ tail))) (open-first u end v (vs ++ tail) (length vs) is)
+      ∙ ap (λ r. and_then r (λ n. some_part what end n (v ∷ vs ++ tail))) is
+      ∙ some-part what end v vs tail,
+)
 
 -- one name is a part
 name-part : (u : Until) (end : ℕ) (tail : List Word) → Stop u tail → length_until u end 0 0 (some_name ∷ tail) ≡ Ok 1
@@ -239,7 +263,11 @@ part-by what u end ws (Ok n) h =
 part-by what u end ws (Err e) h = stands_map (Closes u 0 0) (Reaches (Stop u) (part_reader what u)) end ws e (λ fr c. part-reaches what u fr c) h
 
 pub part_piece : (what : Wanted) (u : Until) (room : ℕ) → Piece IsSome (Stop u) (λ x y. Unit {0}) room (part_reader what u)
-part_piece what u room end ws = part-by what u end ws (length_until u end 0 0 ws) (until_answer u 0 0 end ws (omega arith))
+part_piece what u room end ws =
+    elim (closes_first ws) as (λ b. PieceAnswer IsSome (Stop u) (λ x y. Unit {0}) (part_reader what u) end ws (if b then Err (Expected (place end ws) what) else and_then (length_until u end 0 0 ws) (λ n. some_part what end n ws))) [
+      | true ↦ part-stands what u end ws
+      | false ↦ part-by what u end ws (length_until u end 0 0 ws) (until_answer u 0 0 end ws (omega arith))
+    ]
 
 -- ---- arguments
 
@@ -460,7 +488,7 @@ pub close_begin : {X : Type 0} (x : X) (end : ℕ) (tail : List Word) → Takes 
 close_begin x end tail = (0, x, tt, λ room le. refl)
 
 abbrev close_mark : ℕ → Mark → List Word → Read (List Word)
-close_mark at m ws = elim m [ Close ↦ Ok ws | _ ↦ Err (Expected at wanted.SignOrEnd) ]
+close_mark at m ws = elim m [ Close ↦ Ok ws | _ ↦ Err (Expected at wanted.CloseParen) ]
 
 close-head : {X : Type 0} (R : X → X → Type 0) (x : X) (same : R x x) (m : Mark) (at end : ℕ) (ws : List Word)
     → HeadPiece Whatever R (λ room n zs. and_then (close_mark at m zs) (λ rest. Ok (x, rest))) at end ws (and_then (close_mark at m ws) (λ rest. Ok (x, rest)))
@@ -505,7 +533,7 @@ abbrev expr_mark : (end depth : ℕ) → Word → Mark → List Word → Read (E
 expr_mark end depth w m ws inner = elim m [
   | Free ↦ with_name w (args_from end depth 0 ws)
   | Open ↦ if nat_le 100 depth then Err (Deep w.at) else closed end inner
-  | _ ↦ Err (Expected w.at wanted.Term)
+  | _ ↦ Err (Expected w.at wanted.Expression)
 ]
 
 -- a parenthesis behind an expression may be followed by anything

@@ -11,7 +11,7 @@ use Rattle.pg_script.specs.declared.mark.Mark.TheVariants.{Open, Close}
 use Rattle.pg_script.specs.declared.span.Until.{Until}
 use Rattle.pg_script.specs.Data.{Part}
 use Rattle.pg_script.specs.Marks.{mark, place}
-use Rattle.pg_script.specs.Lines.{Read, and_then, stops, may_end, more, length_step, length_until, part_of, some_part, part_at}
+use Rattle.pg_script.specs.Lines.{Read, and_then, stops, may_end, more, length_step, length_until, part_of, some_part, past_part, closes_first, part_at}
 use Rattle.pg_script.proofs.Alike.{Along, AtToken, AtEnd, Two, along_place, Leaves, Alike, past, wrong, kept, Local, moved, all_past}
 
 -- ---- counts
@@ -58,37 +58,37 @@ counted_more t d k r s some (within n lt one two) = elim (lt_or_le (d + n) (suc 
 
 -- ---- a part
 
-abbrev mark_step : (base depth at : ℕ) → Mark → (same deeper outer : Read ℕ) → Read ℕ
-mark_step base depth at m same deeper outer = elim m [
+abbrev mark_step : Until → (base depth at : ℕ) → Mark → (same deeper outer : Read ℕ) → Read ℕ
+mark_step u base depth at m same deeper outer = elim m [
   | Open ↦ if nat_le 100 depth then Err (Deep at) else more 1 deeper
-  | Close ↦ if depth == base then Err (Expected at wanted.SignOrEnd) else more 1 outer
+  | Close ↦ if depth == base then Err (Expected at (past_part u)) else more 1 outer
   | _ ↦ more 1 same
 ]
 
-counted-mark : (t : Two) (k base depth at : ℕ) (m : Mark) (same deeper outer same' deeper' outer' : Read ℕ) → AtToken t.Front at → Counted t k same same' → Counted t k deeper deeper' → Counted t k outer outer'
-    → Counted t (suc k) (mark_step base depth at m same deeper outer) (mark_step base depth at m same' deeper' outer')
-counted-mark t k base depth at Open same deeper outer same' deeper' outer' here a b c =
+counted-mark : (t : Two) (u : Until) (k base depth at : ℕ) (m : Mark) (same deeper outer same' deeper' outer' : Read ℕ) → AtToken t.Front at → Counted t k same same' → Counted t k deeper deeper' → Counted t k outer outer'
+    → Counted t (suc k) (mark_step u base depth at m same deeper outer) (mark_step u base depth at m same' deeper' outer')
+counted-mark t u k base depth at Open same deeper outer same' deeper' outer' here a b c =
     elim (nat_le 100 depth) as (λ x. Counted t (suc k) (if x then Err (Deep at) else more 1 deeper) (if x then Err (Deep at) else more 1 deeper')) [
       | true ↦ fault (Deep at) refl refl here.2
       | false ↦ counted_more t 1 k deeper deeper' (omega arith) b
     ]
-counted-mark t k base depth at Close same deeper outer same' deeper' outer' here a b c =
-    elim (depth == base) as (λ x. Counted t (suc k) (if x then Err (Expected at wanted.SignOrEnd) else more 1 outer) (if x then Err (Expected at wanted.SignOrEnd) else more 1 outer')) [
-      | true ↦ fault (Expected at wanted.SignOrEnd) refl refl (here.0 wanted.SignOrEnd)
+counted-mark t u k base depth at Close same deeper outer same' deeper' outer' here a b c =
+    elim (depth == base) as (λ x. Counted t (suc k) (if x then Err (Expected at (past_part u)) else more 1 outer) (if x then Err (Expected at (past_part u)) else more 1 outer')) [
+      | true ↦ fault (Expected at (past_part u)) refl refl (here.0 (past_part u))
       | false ↦ counted_more t 1 k outer outer' (omega arith) c
     ]
-counted-mark t k base depth at m same deeper outer same' deeper' outer' here a b c = counted_more t 1 k same same' (omega arith) a
+counted-mark t u k base depth at m same deeper outer same' deeper' outer' here a b c = counted_more t 1 k same same' (omega arith) a
 
 counted-step : (t : Two) (k : ℕ) (u : Until) (base depth at : ℕ) (m : Mark) (same deeper outer same' deeper' outer' : Read ℕ) → AtToken t.Front at → Counted t k same same' → Counted t k deeper deeper' → Counted t k outer outer'
     → Counted t (suc k) (length_step u base depth at m same deeper outer) (length_step u base depth at m same' deeper' outer')
 counted-step t k u base depth at m same deeper outer same' deeper' outer' here a b c =
-    elim ((depth == base) && stops u m) as (λ x. Counted t (suc k) (if x then Ok 0 else mark_step base depth at m same deeper outer) (if x then Ok 0 else mark_step base depth at m same' deeper' outer')) [
+    elim ((depth == base) && stops u m) as (λ x. Counted t (suc k) (if x then Ok 0 else mark_step u base depth at m same deeper outer) (if x then Ok 0 else mark_step u base depth at m same' deeper' outer')) [
       | true ↦ within 0 (omega arith) refl refl
-      | false ↦ counted-mark t k base depth at m same deeper outer same' deeper' outer' here a b c
+      | false ↦ counted-mark t u k base depth at m same deeper outer same' deeper' outer' here a b c
     ]
 
 until-behind : (u : Until) (base depth : ℕ) (P : ScriptFault → Type 0) (end : ℕ) (ws : List Word) → Along P ws → AtEnd P end → Behind P 0 (length_until u end base depth ws)
-until-behind u base depth P end [] a e = elim ((depth == base) && may_end u) as (λ x. Behind P 0 (if x then Ok 0 else Err (Expected end wanted.SignOrEnd))) [
+until-behind u base depth P end [] a e = elim ((depth == base) && may_end u) as (λ x. Behind P 0 (if x then Ok 0 else Err (Expected end wanted.CloseParen))) [
   | true ↦ omega arith
   | false ↦ e _
 ]
@@ -173,4 +173,14 @@ part-counted what t front r s a (within n lt one two) =
     (part-within what t front n a lt)
 
 pub part_local : (what : Wanted) (u : Until) → Local (part_at what u)
-part_local what u t front a = part-counted what t front (length_until u t.end 0 0 (front ++ t.back)) (length_until u t.other_end 0 0 (front ++ t.other)) a (until_counted u 0 0 t front a)
+part_local what u t [] a = past (elim (closes_first t.back) as (λ b. Leaves t.Past (if b then Err (Expected (place t.end t.back) what) else and_then (length_until u t.end 0 0 t.back) (λ n. some_part what t.end n t.back))) [
+  | true ↦ along_place t.Past t.end t.back t.along t.stands what
+  | false ↦ part-then what t.Past t.end [] t.back (length_until u t.end 0 0 t.back) t.along t.stands (until-behind u 0 0 t.Past t.end t.back t.along t.stands)
+])
+part_local what u t (f ∷ fs) a =
+    elim (closes_first (f ∷ [])) as (λ b. Alike t
+    (if b then Err (Expected f.at what) else and_then (length_until u t.end 0 0 (f ∷ fs ++ t.back)) (λ n. some_part what t.end n (f ∷ fs ++ t.back)))
+    (if b then Err (Expected f.at what) else and_then (length_until u t.other_end 0 0 (f ∷ fs ++ t.other)) (λ n. some_part what t.other_end n (f ∷ fs ++ t.other)))) [
+      | true ↦ wrong (Expected f.at what) refl refl (a.0.0 what)
+      | false ↦ part-counted what t (f ∷ fs) (length_until u t.end 0 0 (f ∷ fs ++ t.back)) (length_until u t.other_end 0 0 (f ∷ fs ++ t.other)) a (until_counted u 0 0 t (f ∷ fs) a)
+    ]

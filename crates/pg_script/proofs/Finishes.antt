@@ -55,7 +55,7 @@ ended_ends x room end (w ∷ ws) = inl (refl, ([], tt, ended-fine x))
 
 ended-steady : {X Y : Type 0} (k : X → Y) (x y : X) (ws : List Word) → Fine (ended_reader (k x)) ws → Fine (ended_reader (k y)) ws
 ended-steady k x y [] h = ended-fine (k y)
-ended-steady k x y (w ∷ ws) h = let a = h 0 in absurd (clash (Expected w.at wanted.SignOrEnd) a.1 (a.2 a.0 (omega arith)))
+ended-steady k x y (w ∷ ws) h = let a = h 0 in absurd (clash (Expected w.at wanted.EndOfItem) a.1 (a.2 a.0 (omega arith)))
 
 ended-follows : {X Y : Type 0} (F : List Word → Type 0) (k : X → Y) → F [] → Follows F (λ x y. Unit {0}) (λ x. ended_reader (k x))
 ended-follows F k f = record { begin = []; fits = f; inline = tt; fine = λ x. ended-fine (k x); steady = λ x y ws r h. ended-steady k x y ws h }
@@ -86,7 +86,7 @@ after_name g room begin i f h = then_ends IsSome Whatever (λ x y. x ≡ y) name
 abbrev place_mark : ℕ → Mark → (at : ℕ) → List Word → Read (Option Word)
 place_mark end m at ws = elim m [
   | AtWord ↦ and_then (name_at end ws) (λ p. ended (Some p.0) p.1)
-  | _ ↦ Err (Expected at wanted.SignOrEnd)
+  | _ ↦ Err (Expected at wanted.AtOrEnd)
 ]
 
 abbrev pub place_reader : Reader (Option Word)
@@ -228,7 +228,7 @@ apply_ends room = then_ends IsSome Shut (λ x y. Unit {0}) (expr_reader 0) (plac
 -- ---- forms that begin with a name
 
 abbrev names_mark : Mark → (at : ℕ) → List Word → Read (List Word)
-names_mark m at ws = elim m [ With ↦ unless_fault (names_fault ws) ws | _ ↦ Err (Expected at wanted.SignOrEnd) ]
+names_mark m at ws = elim m [ With ↦ unless_fault (names_fault ws) ws | _ ↦ Err (Expected at wanted.WithOrEnd) ]
 
 names-after-head : (m : Mark) (at end : ℕ) (ws : List Word) → HeadAnswer (λ room n zs. names_mark m at zs) at end ws (names_mark m at ws)
 names-after-head With at end ws = goes_on (names_reader (λ zs. zs)) at end ws (unless_fault (names_fault ws) ws) (names_answer (λ zs. zs) end ws)
@@ -278,7 +278,7 @@ abbrev have_mark : ℕ → Word → Mark → (at : ℕ) → List Word → Read S
 have_mark end name m at ws = elim m [
   | Colon ↦ have_formula end name ws
   | Assign ↦ and_then (exact_at end ws) (λ e. Ok (have name None (Some e)))
-  | _ ↦ Err (Expected at wanted.SignOrEnd)
+  | _ ↦ Err (Expected at wanted.ColonOrAssign)
 ]
 
 abbrev have_reader : Word → Reader Shape
@@ -311,7 +311,7 @@ by-formula name room =
 abbrev cases_mark : ℕ → Word → Mark → (at : ℕ) → List Word → Read Shape
 cases_mark end name m at ws = elim m [
   | Colon ↦ and_then (part_at wanted.Formula until.End end ws) (λ p. Ok (by_cases name p.0))
-  | _ ↦ Err (Expected at wanted.SignOrEnd)
+  | _ ↦ Err (Expected at wanted.Colon)
 ]
 
 abbrev cases_reader : Word → Reader Shape

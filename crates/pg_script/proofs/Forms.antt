@@ -29,7 +29,7 @@ name_local : Local (λ end ws. name_at end ws)
 name_local = by_token (λ end ws. name_at end ws) (λ P end e. e _) (λ t w fs here a. name-choice (is_name w) t w fs here a)
 
 pub ended_final : {V : Type 0} (x : V) → Final (λ end ws. ended x ws)
-ended_final x = final_by_token (λ end ws. ended x ws) (λ P end e. tt) (λ t w fs here a. faulty (Expected w.at wanted.SignOrEnd) refl refl (here.0 wanted.SignOrEnd))
+ended_final x = final_by_token (λ end ws. ended x ws) (λ P end e. tt) (λ t w fs here a. faulty (Expected w.at wanted.EndOfItem) refl refl (here.0 wanted.EndOfItem))
 
 ok_final : {V : Type 0} (x : V) → Final (λ end ws. Ok x)
 ok_final x t front a = passed tt
@@ -112,12 +112,12 @@ deep-stop x y depth t (w ∷ ws) a =
 abbrev place_mark : ℕ → Mark → (at : ℕ) → List Word → Read (Option Word)
 place_mark end m at ws = elim m [
   | AtWord ↦ and_then (name_at end ws) (λ p. ended (Some p.0) p.1)
-  | _ ↦ Err (Expected at wanted.SignOrEnd)
+  | _ ↦ Err (Expected at wanted.AtOrEnd)
 ]
 
 place-begins : (t : Two) (m : Mark) (at : ℕ) (fs : List Word) → AtToken t.Front at → Along t.Front fs → Stops t (place_mark t.end m at (fs ++ t.back)) (place_mark t.other_end m at (fs ++ t.other))
 place-begins t AtWord at fs here a = then_final (λ end ws. name_at end ws) (λ x end ws. ended (Some x) ws) name_local (λ x. ended_final (Some x)) t fs a
-place-begins t m at fs here a = faulty (Expected at wanted.SignOrEnd) refl refl (here.0 wanted.SignOrEnd)
+place-begins t m at fs here a = faulty (Expected at wanted.AtOrEnd) refl refl (here.0 wanted.AtOrEnd)
 
 place_final : Final (λ end ws. place_at end ws)
 place_final = final_by_token (λ end ws. place_at end ws) (λ P end e. tt) (λ t w fs here a. place-begins t (mark w) w.at fs here a)
@@ -127,18 +127,22 @@ place_final = final_by_token (λ end ws. place_at end ws) (λ P end e. tt) (λ t
 abbrev rule_mark : ℕ → Mark → Word → List Word → Read (Rule × List Word)
 rule_mark end m w ws = elim m [
   | LeftArrow ↦ and_then (expr_at end 0 ws) (λ p. Ok (record { back = true; expr = p.0 }, p.1))
-  | _ ↦ and_then (expr_at end 0 (w ∷ ws)) (λ p. Ok (record { back = false; expr = p.0 }, p.1))
+  | Free ↦ and_then (expr_at end 0 (w ∷ ws)) (λ p. Ok (record { back = false; expr = p.0 }, p.1))
+  | Open ↦ and_then (expr_at end 0 (w ∷ ws)) (λ p. Ok (record { back = false; expr = p.0 }, p.1))
+  | _ ↦ Err (Expected w.at wanted.Rule)
 ]
 
 rule-begins : (t : Two) (m : Mark) (w : Word) (fs : List Word) → AtToken t.Front w.at → Along t.Front fs → Alike t (rule_mark t.end m w (fs ++ t.back)) (rule_mark t.other_end m w (fs ++ t.other))
 rule-begins t LeftArrow w fs here a = map_alike t (λ e. record { back = true; expr = e }) (expr_at t.end 0 (fs ++ t.back)) (expr_at t.other_end 0 (fs ++ t.other)) (expr_local 0 t fs a)
-rule-begins t m w fs here a = map_alike t (λ e. record { back = false; expr = e }) (expr_at t.end 0 (w ∷ fs ++ t.back)) (expr_at t.other_end 0 (w ∷ fs ++ t.other)) (expr_local 0 t (w ∷ fs) (here, a))
+rule-begins t Free w fs here a = map_alike t (λ e. record { back = false; expr = e }) (expr_at t.end 0 (w ∷ fs ++ t.back)) (expr_at t.other_end 0 (w ∷ fs ++ t.other)) (expr_local 0 t (w ∷ fs) (here, a))
+rule-begins t Open w fs here a = map_alike t (λ e. record { back = false; expr = e }) (expr_at t.end 0 (w ∷ fs ++ t.back)) (expr_at t.other_end 0 (w ∷ fs ++ t.other)) (expr_local 0 t (w ∷ fs) (here, a))
+rule-begins t m w fs here a = wrong (Expected w.at wanted.Rule) refl refl (here.0 wanted.Rule)
 
 rule_local : Local (λ end ws. rule_at end ws)
 rule_local = by_token (λ end ws. rule_at end ws) (λ P end e. e _) (λ t w fs here a. rule-begins t (mark w) w fs here a)
 
 abbrev no_rule_mark : Mark → (at : ℕ) → ScriptFault
-no_rule_mark m at = elim m [ Free ↦ TooMany at | Open ↦ TooMany at | LeftArrow ↦ TooMany at | _ ↦ Expected at wanted.Term ]
+no_rule_mark m at = elim m [ Free ↦ TooMany at | Open ↦ TooMany at | LeftArrow ↦ TooMany at | _ ↦ Expected at wanted.Rule ]
 
 no-rule-at : (P : ScriptFault → Type 0) (m : Mark) (at : ℕ) → AtToken P at → P (no_rule_mark m at)
 no-rule-at P Free at h = h.1
@@ -153,13 +157,13 @@ abbrev rule_end_mark : Mark → (at : ℕ) → List Word → Read (Bool × List 
 rule_end_mark m at ws = elim m [
   | Comma ↦ Ok (true, ws)
   | CloseBracket ↦ Ok (false, ws)
-  | _ ↦ Err (Expected at wanted.SignOrEnd)
+  | _ ↦ Err (Expected at wanted.CommaOrBracket)
 ]
 
 rule-end-begins : (t : Two) (m : Mark) (at : ℕ) (fs : List Word) → AtToken t.Front at → Along t.Front fs → Alike t (rule_end_mark m at (fs ++ t.back)) (rule_end_mark m at (fs ++ t.other))
 rule-end-begins t Comma at fs here a = ok_local true t fs a
 rule-end-begins t CloseBracket at fs here a = ok_local false t fs a
-rule-end-begins t m at fs here a = wrong (Expected at wanted.SignOrEnd) refl refl (here.0 wanted.SignOrEnd)
+rule-end-begins t m at fs here a = wrong (Expected at wanted.CommaOrBracket) refl refl (here.0 wanted.CommaOrBracket)
 
 rule_end_local : Local (λ end ws. rule_end end ws)
 rule_end_local = by_token (λ end ws. rule_end end ws) (λ P end e. e _) (λ t w fs here a. rule-end-begins t (mark w) w.at fs here a)
@@ -178,11 +182,11 @@ rules_local (suc room) =
     (λ x. then_local (λ end ws. rule_end end ws) (λ b. rules_more room x b) rule_end_local (λ b. rules-more room x b (rules_local room)))
 
 abbrev bracket_mark : (room end : ℕ) → Mark → (at : ℕ) → List Word → Read (List Rule × List Word)
-bracket_mark room end m at ws = elim m [ OpenBracket ↦ rules_at room end ws | _ ↦ Err (Expected at wanted.SignOrEnd) ]
+bracket_mark room end m at ws = elim m [ OpenBracket ↦ rules_at room end ws | _ ↦ Err (Expected at wanted.OpenBracket) ]
 
 bracket-begins : (room : ℕ) (t : Two) (m : Mark) (at : ℕ) (fs : List Word) → AtToken t.Front at → Along t.Front fs → Alike t (bracket_mark room t.end m at (fs ++ t.back)) (bracket_mark room t.other_end m at (fs ++ t.other))
 bracket-begins room t OpenBracket at fs here a = rules_local room t fs a
-bracket-begins room t m at fs here a = wrong (Expected at wanted.SignOrEnd) refl refl (here.0 wanted.SignOrEnd)
+bracket-begins room t m at fs here a = wrong (Expected at wanted.OpenBracket) refl refl (here.0 wanted.OpenBracket)
 
 bracketed_local : (room : ℕ) → Local (λ end ws. bracketed_rules room end ws)
 bracketed_local room = by_token (λ end ws. bracketed_rules room end ws) (λ P end e. e _) (λ t w fs here a. bracket-begins room t (mark w) w.at fs here a)
@@ -235,11 +239,11 @@ intro_final : (room : ℕ) → Final (λ end ws. intro_at room end ws)
 intro_final room = final_by_token (λ end ws. intro_at room end ws) (λ P end e. e _) (λ t w fs here a. steps-stop (intro (w ∷ fs ++ t.back)) (intro (w ∷ fs ++ t.other)) room t (w ∷ fs) (here, a))
 
 abbrev with_mark : Mark → (at : ℕ) → List Word → Read (List Word)
-with_mark m at ws = elim m [ With ↦ unless_fault (names_fault ws) ws | _ ↦ Err (Expected at wanted.SignOrEnd) ]
+with_mark m at ws = elim m [ With ↦ unless_fault (names_fault ws) ws | _ ↦ Err (Expected at wanted.WithOrEnd) ]
 
 with-begins : (t : Two) (m : Mark) (at : ℕ) (fs : List Word) → AtToken t.Front at → Along t.Front fs → Stops t (with_mark m at (fs ++ t.back)) (with_mark m at (fs ++ t.other))
 with-begins t With at fs here a = names-stop (fs ++ t.back) (fs ++ t.other) t fs a
-with-begins t m at fs here a = faulty (Expected at wanted.SignOrEnd) refl refl (here.0 wanted.SignOrEnd)
+with-begins t m at fs here a = faulty (Expected at wanted.WithOrEnd) refl refl (here.0 wanted.WithOrEnd)
 
 with_final : Final (λ end ws. names_after ws)
 with_final = final_by_token (λ end ws. names_after ws) (λ P end e. tt) (λ t w fs here a. with-begins t (mark w) w.at fs here a)
@@ -260,13 +264,13 @@ abbrev have_mark : ℕ → Word → Mark → (at : ℕ) → List Word → Read S
 have_mark end name m at ws = elim m [
   | Colon ↦ have_formula end name ws
   | Assign ↦ and_then (exact_at end ws) (λ e. Ok (have name None (Some e)))
-  | _ ↦ Err (Expected at wanted.SignOrEnd)
+  | _ ↦ Err (Expected at wanted.ColonOrAssign)
 ]
 
 have-begins : (name : Word) (t : Two) (m : Mark) (at : ℕ) (fs : List Word) → AtToken t.Front at → Along t.Front fs → Stops t (have_mark t.end name m at (fs ++ t.back)) (have_mark t.other_end name m at (fs ++ t.other))
 have-begins name t Colon at fs here a = have_formula_final name t fs a
 have-begins name t Assign at fs here a = map_final (λ end ws. exact_at end ws) (λ e. have name None (Some e)) exact_final t fs a
-have-begins name t m at fs here a = faulty (Expected at wanted.SignOrEnd) refl refl (here.0 wanted.SignOrEnd)
+have-begins name t m at fs here a = faulty (Expected at wanted.ColonOrAssign) refl refl (here.0 wanted.ColonOrAssign)
 
 have_final : (name : Word) → Final (λ end ws. have_of end name ws)
 have_final name = final_by_token (λ end ws. have_of end name ws) (λ P end e. e _) (λ t w fs here a. have-begins name t (mark w) w.at fs here a)
@@ -274,12 +278,12 @@ have_final name = final_by_token (λ end ws. have_of end name ws) (λ P end e. e
 abbrev cases_mark : ℕ → Word → Mark → (at : ℕ) → List Word → Read Shape
 cases_mark end name m at ws = elim m [
   | Colon ↦ and_then (part_at wanted.Formula until.End end ws) (λ p. Ok (by_cases name p.0))
-  | _ ↦ Err (Expected at wanted.SignOrEnd)
+  | _ ↦ Err (Expected at wanted.Colon)
 ]
 
 cases-begins : (name : Word) (t : Two) (m : Mark) (at : ℕ) (fs : List Word) → AtToken t.Front at → Along t.Front fs → Stops t (cases_mark t.end name m at (fs ++ t.back)) (cases_mark t.other_end name m at (fs ++ t.other))
 cases-begins name t Colon at fs here a = then_final (λ end ws. part_at wanted.Formula until.End end ws) (λ p end ws. Ok (by_cases name p)) (part_local wanted.Formula until.End) (λ p. ok_final (by_cases name p)) t fs a
-cases-begins name t m at fs here a = faulty (Expected at wanted.SignOrEnd) refl refl (here.0 wanted.SignOrEnd)
+cases-begins name t m at fs here a = faulty (Expected at wanted.Colon) refl refl (here.0 wanted.Colon)
 
 cases_final : (name : Word) → Final (λ end ws. cases_of end name ws)
 cases_final name = final_by_token (λ end ws. cases_of end name ws) (λ P end e. e _) (λ t w fs here a. cases-begins name t (mark w) w.at fs here a)
@@ -300,27 +304,27 @@ shape_final head.Unknown room = λ t front a. deep-stop unknown unknown 0 t fron
 
 -- ---- hints
 
-option-choice : (o : Option HintOption) (t : Two) (at : ℕ) (fs : List Word) → AtToken t.Front at → Along t.Front fs → Alike t (and_then (expected_or at o) (λ x. Ok (x, fs ++ t.back))) (and_then (expected_or at o) (λ x. Ok (x, fs ++ t.other)))
-option-choice None t at fs here a = wrong (Expected at wanted.Name) refl refl (here.0 wanted.Name)
+option-choice : (o : Option HintOption) (t : Two) (at : ℕ) (fs : List Word) → AtToken t.Front at → Along t.Front fs → Alike t (and_then (expected_or wanted.HintOption at o) (λ x. Ok (x, fs ++ t.back))) (and_then (expected_or wanted.HintOption at o) (λ x. Ok (x, fs ++ t.other)))
+option-choice None t at fs here a = wrong (Expected at wanted.HintOption) refl refl (here.0 wanted.HintOption)
 option-choice (Some o) t at fs here a = ok_local o t fs a
 
 option_local : (flags : Flags) → Local (λ end ws. option_at flags end ws)
 option_local flags = by_token (λ end ws. option_at flags end ws) (λ P end e. e _) (λ t w fs here a. option-choice (option_of flags w) t w.at fs here a)
 
-value-choice : (o : Option Bool) (t : Two) (at : ℕ) (fs : List Word) → AtToken t.Front at → Along t.Front fs → Alike t (and_then (expected_or at o) (λ x. Ok (x, fs ++ t.back))) (and_then (expected_or at o) (λ x. Ok (x, fs ++ t.other)))
-value-choice None t at fs here a = wrong (Expected at wanted.Name) refl refl (here.0 wanted.Name)
+value-choice : (o : Option Bool) (t : Two) (at : ℕ) (fs : List Word) → AtToken t.Front at → Along t.Front fs → Alike t (and_then (expected_or wanted.TruthValue at o) (λ x. Ok (x, fs ++ t.back))) (and_then (expected_or wanted.TruthValue at o) (λ x. Ok (x, fs ++ t.other)))
+value-choice None t at fs here a = wrong (Expected at wanted.TruthValue) refl refl (here.0 wanted.TruthValue)
 value-choice (Some o) t at fs here a = ok_local o t fs a
 
 value_local : Local (λ end ws. value_at end ws)
 value_local = by_token (λ end ws. value_at end ws) (λ P end e. e _) (λ t w fs here a. value-choice (value_of w) t w.at fs here a)
 
 abbrev assign_mark : Mark → (at : ℕ) → List Word → Read (List Word)
-assign_mark m at ws = elim m [ Assign ↦ Ok ws | _ ↦ Err (Expected at wanted.SignOrEnd) ]
+assign_mark m at ws = elim m [ Assign ↦ Ok ws | _ ↦ Err (Expected at wanted.Assign) ]
 
 assign-begins : {V : Type 0} (g : ℕ → List Word → Read (V × List Word)) (l : Local g) (t : Two) (m : Mark) (at : ℕ) (fs : List Word) → AtToken t.Front at → Along t.Front fs
     → Alike t (and_then (assign_mark m at (fs ++ t.back)) (g t.end)) (and_then (assign_mark m at (fs ++ t.other)) (g t.other_end))
 assign-begins g l t Assign at fs here a = l t fs a
-assign-begins g l t m at fs here a = wrong (Expected at wanted.SignOrEnd) refl refl (here.0 wanted.SignOrEnd)
+assign-begins g l t m at fs here a = wrong (Expected at wanted.Assign) refl refl (here.0 wanted.Assign)
 
 assign_local : {V : Type 0} (g : ℕ → List Word → Read (V × List Word)) → Local g → Local (λ end ws. and_then (after_assign end ws) (g end))
 assign_local g l = by_token (λ end ws. and_then (after_assign end ws) (g end)) (λ P end e. e _) (λ t w fs here a. assign-begins g l t (mark w) w.at fs here a)

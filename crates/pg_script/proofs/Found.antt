@@ -151,18 +151,18 @@ after-follows column end s (v ∷ vs) o g h =
     ] refl h
 
 sign-follows : (column end : ℕ) (s : Word) (ws : List Word) (o : Option (List Word)) → IsFalse (s.first && nat_lt s.column column) → IsFalse (s.first && (s.column == column))
-    → (if is_semicolon s then after_semicolon column end ws else Err (Expected s.at wanted.SignOrEnd)) ≡ Ok o → Follows column (s ∷ ws) o
+    → (if is_semicolon s then after_semicolon column end ws else Err (Expected s.at wanted.EndOfItem)) ≡ Ok o → Follows column (s ∷ ws) o
 sign-follows column end s ws o a b h =
-    elim (is_semicolon s) as (λ c. is_semicolon s ≡ c → (if c then after_semicolon column end ws else Err (Expected s.at wanted.SignOrEnd)) ≡ Ok o → Follows column (s ∷ ws) o) [
+    elim (is_semicolon s) as (λ c. is_semicolon s ≡ c → (if c then after_semicolon column end ws else Err (Expected s.at wanted.EndOfItem)) ≡ Ok o → Follows column (s ∷ ws) o) [
       | true ↦ λ e k. after-follows column end s ws o (a, b, e) k
-      | false ↦ λ e k. absurd (clash (Expected s.at wanted.SignOrEnd) o k)
+      | false ↦ λ e k. absurd (clash (Expected s.at wanted.EndOfItem) o k)
     ] refl h
 
 line-follows : (column end : ℕ) (w : Word) (ws : List Word) (o : Option (List Word)) → IsFalse (w.first && nat_lt w.column column)
-    → (if w.first && (w.column == column) then Ok (Some (w ∷ ws)) else (if is_semicolon w then after_semicolon column end ws else Err (Expected w.at wanted.SignOrEnd))) ≡ Ok o → Follows column (w ∷ ws) o
+    → (if w.first && (w.column == column) then Ok (Some (w ∷ ws)) else (if is_semicolon w then after_semicolon column end ws else Err (Expected w.at wanted.EndOfItem))) ≡ Ok o → Follows column (w ∷ ws) o
 line-follows column end w ws o a h =
     elim (w.first && (w.column == column)) as (λ c. (w.first && (w.column == column)) ≡ c
-    → (if c then Ok (Some (w ∷ ws)) else (if is_semicolon w then after_semicolon column end ws else Err (Expected w.at wanted.SignOrEnd))) ≡ Ok o → Follows column (w ∷ ws) o) [
+    → (if c then Ok (Some (w ∷ ws)) else (if is_semicolon w then after_semicolon column end ws else Err (Expected w.at wanted.EndOfItem))) ≡ Ok o → Follows column (w ∷ ws) o) [
       | true ↦ λ e k. let P : Option (List Word) → Type 0 = Follows column (w ∷ ws) in subst P (inj (Some (w ∷ ws)) o k) (by_line w ws (a, e))
       | false ↦ λ e k. sign-follows column end w ws o a e k
     ] refl h
@@ -171,7 +171,7 @@ follows : (column end : ℕ) (ws : List Word) (o : Option (List Word)) → next_
 follows column end [] o h = let P : Option (List Word) → Type 0 = Follows column [] in subst P (inj None o h) (ended_here [] tt)
 follows column end (w ∷ ws) o h =
     elim (w.first && nat_lt w.column column) as (λ c. (w.first && nat_lt w.column column) ≡ c
-    → (if c then Ok None else (if w.first && (w.column == column) then Ok (Some (w ∷ ws)) else (if is_semicolon w then after_semicolon column end ws else Err (Expected w.at wanted.SignOrEnd)))) ≡ Ok o → Follows column (w ∷ ws) o) [
+    → (if c then Ok None else (if w.first && (w.column == column) then Ok (Some (w ∷ ws)) else (if is_semicolon w then after_semicolon column end ws else Err (Expected w.at wanted.EndOfItem)))) ≡ Ok o → Follows column (w ∷ ws) o) [
       | true ↦ λ e k. let P : Option (List Word) → Type 0 = Follows column (w ∷ ws) in subst P (inj None o k) (ended_here (w ∷ ws) e)
       | false ↦ λ e k. line-follows column end w ws o e k
     ] refl h
@@ -267,7 +267,7 @@ insides sample end (suc budget) room v vs p h =
 
 ended-ok : (xs ys : List Entry) (rest : List Word) → ended xs rest ≡ Ok ys → (rest ≡ []) × (xs ≡ ys)
 ended-ok xs ys [] h = (refl, inj xs ys h)
-ended-ok xs ys (w ∷ ws) h = absurd (clash (Expected w.at wanted.SignOrEnd) ys h)
+ended-ok xs ys (w ∷ ws) h = absurd (clash (Expected w.at wanted.EndOfItem) ys h)
 
 -- what is read is laid out
 pub script_laid : (sample : Bool) (end : ℕ) (ws : List Word) (xs : List Entry) → entries_of_tokens ws end sample ≡ Ok xs → IsScript sample end ws xs

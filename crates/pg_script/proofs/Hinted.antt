@@ -3,6 +3,7 @@ use Rattle.std.proofs.Common.{◌≡◌, ℕ, Bool, true, false, List, [], ◌�
 use Rattle.std.specs.Prelude.{is_some, codes}
 use Rattle.pg_base.specs.declared.token.Sign.TheVariants as sign
 use Rattle.pg_base.specs.declared.token.TokenKind.TheVariants as token
+use Rattle.pg_base.specs.declared.token.Wanted.{Wanted}
 use Rattle.pg_base.specs.declared.token.Wanted.TheVariants as wanted
 use Rattle.pg_base.specs.Tokens.{Word}
 use Rattle.pg_script.specs.declared.fault.ScriptFault.TheVariants.{Expected}
@@ -22,12 +23,12 @@ use Rattle.pg_script.proofs.Finishes.{ended_reader, ended_ends}
 -- ---- an option and its value
 
 -- one token, of which something is known or not
-abbrev chosen : {V : Type 0} → ℕ → Option V → Reader (V × List Word)
-chosen at o room n ws = and_then (expected_or at o) (λ v. Ok (v, ws))
+abbrev chosen : {V : Type 0} → Wanted → ℕ → Option V → Reader (V × List Word)
+chosen what at o room n ws = and_then (expected_or what at o) (λ v. Ok (v, ws))
 
-choice-head : {V : Type 0} (o : Option V) (at end : ℕ) (ws : List Word) → HeadPiece Whatever (λ a b. a ≡ b) (chosen at o) at end ws (and_then (expected_or at o) (λ v. Ok (v, ws)))
-choice-head None at end ws = inl refl
-choice-head (Some v) at end ws = ([], refl, λ n tail fit. (0, v, refl, λ room le. refl))
+choice-head : {V : Type 0} (what : Wanted) (o : Option V) (at end : ℕ) (ws : List Word) → HeadPiece Whatever (λ a b. a ≡ b) (chosen what at o) at end ws (and_then (expected_or what at o) (λ v. Ok (v, ws)))
+choice-head what None at end ws = inl refl
+choice-head what (Some v) at end ws = ([], refl, λ n tail fit. (0, v, refl, λ room le. refl))
 
 same-leads : {X Y : Type 0} (T : Y → Y → Type 0) (g : X → Reader (Y × List Word)) (begin : List Word) → Inline begin → ((x : X) (end : ℕ) (tail : List Word) → Takes (g x) (λ y. Unit {0}) end begin tail)
     → Leads Whatever Whatever (λ x y. x ≡ y) T g
@@ -54,7 +55,7 @@ value-begin = (true_word ∷ [], (refl, refl, tt), λ n tail s. value-takes n ta
 
 value-piece : (room : ℕ) → Piece IsSome Whatever (λ a b. a ≡ b) room value_reader
 value-piece room end [] = (refl, value-begin)
-value-piece room end (w ∷ ws) = piece_head Whatever (λ a b. a ≡ b) value_reader end w ws (and_then (expected_or w.at (value_of w)) (λ v. Ok (v, ws))) value-begin (choice-head (value_of w) w.at end ws)
+value-piece room end (w ∷ ws) = piece_head Whatever (λ a b. a ≡ b) value_reader end w ws (and_then (expected_or wanted.TruthValue w.at (value_of w)) (λ v. Ok (v, ws))) value-begin (choice-head wanted.TruthValue (value_of w) w.at end ws)
 
 -- the value and the closing parenthesis
 abbrev valued : Flags → HintOption → Reader (Flags × List Word)
@@ -76,7 +77,7 @@ abbrev assigned : Flags → HintOption → Reader (Flags × List Word)
 assigned flags o room n ws = and_then (after_assign n ws) (λ behind. valued flags o room n behind)
 
 abbrev assign_mark : ℕ → Mark → List Word → Read (List Word)
-assign_mark at m ws = elim m [ Assign ↦ Ok ws | _ ↦ Err (Expected at wanted.SignOrEnd) ]
+assign_mark at m ws = elim m [ Assign ↦ Ok ws | _ ↦ Err (Expected at wanted.Assign) ]
 
 abbrev assign_word : Word
 assign_word = sign_word sign.Assign
@@ -106,14 +107,14 @@ option_reader flags room n ws = option_at flags n ws
 
 option-begin : (flags : Flags) → Spare flags → Reaches Whatever (option_reader flags) []
 option-begin flags (inl h) =
-    (name_word (codes "hidden") ∷ [], (refl, refl, tt), λ n tail s. (0, option.Hidden, tt, λ room le. ap (λ c. chosen 0 (if c then None else Some option.Hidden) 0 n tail) h))
+    (name_word (codes "hidden") ∷ [], (refl, refl, tt), λ n tail s. (0, option.Hidden, tt, λ room le. ap (λ c. chosen wanted.HintOption 0 (if c then None else Some option.Hidden) 0 n tail) h))
 option-begin flags (inr h) =
-    (name_word (codes "strict") ∷ [], (refl, refl, tt), λ n tail s. (0, option.Strict, tt, λ room le. ap (λ c. chosen 0 (if c then None else Some option.Strict) 0 n tail) h))
+    (name_word (codes "strict") ∷ [], (refl, refl, tt), λ n tail s. (0, option.Strict, tt, λ room le. ap (λ c. chosen wanted.HintOption 0 (if c then None else Some option.Strict) 0 n tail) h))
 
 option-piece : (flags : Flags) (room : ℕ) → Spare flags → Piece IsSome Whatever (λ a b. a ≡ b) room (option_reader flags)
 option-piece flags room s end [] = (refl, option-begin flags s)
 option-piece flags room s end (w ∷ ws) =
-    piece_head Whatever (λ a b. a ≡ b) (option_reader flags) end w ws (and_then (expected_or w.at (option_of flags w)) (λ v. Ok (v, ws))) (option-begin flags s) (choice-head (option_of flags w) w.at end ws)
+    piece_head Whatever (λ a b. a ≡ b) (option_reader flags) end w ws (and_then (expected_or wanted.HintOption w.at (option_of flags w)) (λ v. Ok (v, ws))) (option-begin flags s) (choice-head wanted.HintOption (option_of flags w) w.at end ws)
 
 flag-piece : (flags : Flags) (room : ℕ) → Spare flags → Piece IsSome Whatever (λ a b. a ≡ b) room (chained (option_reader flags) (assigned flags))
 flag-piece flags room s =

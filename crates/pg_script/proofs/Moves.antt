@@ -5,7 +5,7 @@ use Rattle.pg_base.specs.Tokens.{Word}
 use Rattle.pg_script.specs.declared.fault.ScriptFault.{ScriptFault}
 use Rattle.pg_script.specs.declared.fault.ScriptFault.TheVariants.{Expected, TooMany}
 use Rattle.pg_script.specs.declared.mark.Mark.{Mark}
-use Rattle.pg_script.specs.declared.mark.Mark.TheVariants.{CloseBracket, Comma, Assign, LeftArrow, At as AtWord}
+use Rattle.pg_script.specs.declared.mark.Mark.TheVariants.{Open, Free, CloseBracket, Comma, Assign, LeftArrow, At as AtWord}
 use Rattle.pg_script.specs.declared.span.Until.TheVariants as until
 use Rattle.pg_script.specs.Data.{Part, Expression, Rule}
 use Rattle.pg_script.specs.Marks.{mark, is_name}
@@ -72,7 +72,7 @@ name-found end (w ∷ ws) p h =
 abbrev place_mark : ℕ → Mark → (at : ℕ) → List Word → Read (Option Word)
 place_mark end m at ws = elim m [
   | AtWord ↦ and_then (name_at end ws) (λ p. ended (Some p.0) p.1)
-  | _ ↦ Err (Expected at wanted.SignOrEnd)
+  | _ ↦ Err (Expected at wanted.AtOrEnd)
 ]
 
 pub place-read : {ws : List Word} {h : Option Word} (end : ℕ) → IsPlace ws h → place_at end ws ≡ Ok h
@@ -93,7 +93,7 @@ place-by end w ws h AtWord hm e =
     let P : List Word → Type 0 = λ t. IsPlace (w ∷ t) h in
     let Q : Option Word → Type 0 = λ o. IsPlace (w ∷ n.0.0 ∷ []) o in
     subst P whole (subst Q k.1 (at_name w n.0.0 hm f.name))
-place-by end w ws h m hm e = absurd (clash (Expected w.at wanted.SignOrEnd) h e)
+place-by end w ws h m hm e = absurd (clash (Expected w.at wanted.AtOrEnd) h e)
 
 pub place-found : (end : ℕ) (ws : List Word) (h : Option Word) → place_at end ws ≡ Ok h → IsPlace ws h
 place-found end [] h e = let P : Option Word → Type 0 = IsPlace [] in subst P (inj None h e) nowhere
@@ -104,7 +104,9 @@ place-found end (w ∷ ws) h e = place-by end w ws h (mark w) refl e
 abbrev rule_mark : ℕ → Mark → Word → List Word → Read (Rule × List Word)
 rule_mark end m w ws = elim m [
   | LeftArrow ↦ and_then (expr_at end 0 ws) (λ p. Ok (record { back = true; expr = p.0 }, p.1))
-  | _ ↦ and_then (expr_at end 0 (w ∷ ws)) (λ p. Ok (record { back = false; expr = p.0 }, p.1))
+  | Free ↦ and_then (expr_at end 0 (w ∷ ws)) (λ p. Ok (record { back = false; expr = p.0 }, p.1))
+  | Open ↦ and_then (expr_at end 0 (w ∷ ws)) (λ p. Ok (record { back = false; expr = p.0 }, p.1))
+  | _ ↦ Err (Expected w.at wanted.Rule)
 ]
 
 forward-read : {end depth : ℕ} {ws next : List Word} {e : Expression} → IsExpression end depth ws next e → (rest : List Word) → rule_at end (ws ++ rest) ≡ and_then (expr_at end 0 (ws ++ rest)) (λ p. Ok ((let r : Rule = record { back = false; expr = p.0 } in r), p.1))
@@ -132,17 +134,19 @@ rule-by end w ws p LeftArrow hm h =
     let i = expr_found end 0 ws m.0 m.1 in
     let P : Rule × List Word → Type 0 = RuleIn end (w ∷ ws) in
     subst P (inj ((let r : Rule = record { back = true; expr = m.0.0 } in r), m.0.1) p m.2) (w ∷ i.0, ap (λ t. w ∷ t) i.1, backwards w i.0 m.0.1 m.0.0 hm i.2)
-rule-by end w ws p m hm h = forward-found end (w ∷ ws) p h
+rule-by end w ws p Free hm h = forward-found end (w ∷ ws) p h
+rule-by end w ws p Open hm h = forward-found end (w ∷ ws) p h
+rule-by end w ws p m hm h = absurd (clash (Expected w.at wanted.Rule) p h)
 
 rule-found : (end : ℕ) (ws : List Word) (p : Rule × List Word) → rule_at end ws ≡ Ok p → RuleIn end ws p
-rule-found end [] p h = absurd (clash (Expected end wanted.Term) p h)
+rule-found end [] p h = absurd (clash (Expected end wanted.Rule) p h)
 rule-found end (w ∷ ws) p h = rule-by end w ws p (mark w) refl h
 
 abbrev end_mark : Mark → (at : ℕ) → List Word → Read (Bool × List Word)
 end_mark m at ws = elim m [
   | Comma ↦ Ok (true, ws)
   | CloseBracket ↦ Ok (false, ws)
-  | _ ↦ Err (Expected at wanted.SignOrEnd)
+  | _ ↦ Err (Expected at wanted.CommaOrBracket)
 ]
 
 abbrev rules_behind : (room end : ℕ) → Rule → Bool × List Word → Read (List Rule × List Word)
@@ -182,7 +186,7 @@ RuleEnd c false = mark c ≡ CloseBracket
 end-by : (c : Word) (cs : List Word) (q : Bool × List Word) (m : Mark) → mark c ≡ m → end_mark m c.at cs ≡ Ok q → RuleEnd c q.0 × (cs ≡ q.1)
 end-by c cs q Comma hm h = let P : Bool × List Word → Type 0 = λ x. RuleEnd c x.0 × (cs ≡ x.1) in subst P (inj (true, cs) q h) (hm, refl)
 end-by c cs q CloseBracket hm h = let P : Bool × List Word → Type 0 = λ x. RuleEnd c x.0 × (cs ≡ x.1) in subst P (inj (false, cs) q h) (hm, refl)
-end-by c cs q m hm h = absurd (clash (Expected c.at wanted.SignOrEnd) q h)
+end-by c cs q m hm h = absurd (clash (Expected c.at wanted.CommaOrBracket) q h)
 
 record EndFound (xs : List Word) (q : Bool × List Word) : Type 0 where
   sign : Word
@@ -190,7 +194,7 @@ record EndFound (xs : List Word) (q : Bool × List Word) : Type 0 where
   whole : xs ≡ sign ∷ q.1
 
 end-found : (end : ℕ) (xs : List Word) (q : Bool × List Word) → rule_end end xs ≡ Ok q → EndFound xs q
-end-found end [] q h = absurd (clash (Expected end wanted.SignOrEnd) q h)
+end-found end [] q h = absurd (clash (Expected end wanted.CommaOrBracket) q h)
 end-found end (c ∷ cs) q h = let e = end-by c cs q (mark c) refl h in record { sign = c; ends_so = e.0; whole = ap (λ t. c ∷ t) e.1 }
 
 first-ok : {V : Type 0} (x : V) (r : Read (List V × List Word)) (p : List V × List Word) → with_first x r ≡ Ok p → (q : List V × List Word) × (r ≡ Ok q) × ((x ∷ q.0, q.1) ≡ p)

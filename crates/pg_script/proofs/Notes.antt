@@ -3,6 +3,7 @@ use Rattle.std.proofs.Common.{◌≡◌, ◌∙◌, ℕ, Bool, true, false, List
 use Rattle.std.specs.Prelude.{codes}
 use Rattle.std.specs.Str.{bytes_eq}
 use Rattle.std.proofs.lemmas.Slice.Eq.{bytes_eq-Decides}
+use Rattle.pg_base.specs.declared.token.Wanted.{Wanted}
 use Rattle.pg_base.specs.declared.token.Wanted.TheVariants as wanted
 use Rattle.pg_base.specs.Tokens.{Word}
 use Rattle.pg_script.specs.declared.fault.ScriptFault.TheVariants.{Expected}
@@ -54,10 +55,10 @@ value-read : (b : Bool) (v : Word) → IsWord v (value_text b) → value_of v �
 value-read b v h = ap (option_and_then value_named) (word-free v (value_text b) h) ∙ value-named b
 
 abbrev assign_read : ℕ → Mark → List Word → Read (List Word)
-assign_read at m ws = elim m [ Assign ↦ Ok ws | _ ↦ Err (Expected at wanted.SignOrEnd) ]
+assign_read at m ws = elim m [ Assign ↦ Ok ws | _ ↦ Err (Expected at wanted.Assign) ]
 
 abbrev close_read : ℕ → Mark → List Word → Read (List Word)
-close_read at m ws = elim m [ Close ↦ Ok ws | _ ↦ Err (Expected at wanted.SignOrEnd) ]
+close_read at m ws = elim m [ Close ↦ Ok ws | _ ↦ Err (Expected at wanted.CloseParen) ]
 
 abbrev flag_mark : Flags → ℕ → Mark → Word → List Word → Read (Flags × List Word)
 flag_mark flags end m w ws = elim m [ Open ↦ flag_at flags end ws | _ ↦ Ok (flags, w ∷ ws) ]
@@ -75,9 +76,9 @@ after_option flags end o = and_then (after_assign end o.1) (after_sign flags o.0
 flag-read : {b : Bool} {ws : List Word} (flags : Flags) (end : ℕ) (o : HintOption) (rest : List Word) → given o flags ≡ None → IsOption (option_text o) b ws → maybe_flag flags end (ws ++ rest) ≡ Ok (with_option o b flags, rest)
 flag-read {b = b} flags end o rest g (an_option p n a v c hp hn ha hv hc) =
     ap (λ m. flag_mark flags end m p (n ∷ a ∷ v ∷ c ∷ rest)) hp
-    ∙ ap (λ x. and_then (and_then (expected_or n.at x) (λ y. Ok (y, a ∷ v ∷ c ∷ rest))) (after_option flags end)) (option-read flags o n hn g)
+    ∙ ap (λ x. and_then (and_then (expected_or wanted.HintOption n.at x) (λ y. Ok (y, a ∷ v ∷ c ∷ rest))) (after_option flags end)) (option-read flags o n hn g)
     ∙ ap (λ m. and_then (assign_read a.at m (v ∷ c ∷ rest)) (after_sign flags o end)) ha
-    ∙ ap (λ x. and_then (and_then (expected_or v.at x) (λ y. Ok (y, c ∷ rest))) (after_value flags o end)) (value-read b v hv)
+    ∙ ap (λ x. and_then (and_then (expected_or wanted.TruthValue v.at x) (λ y. Ok (y, c ∷ rest))) (after_value flags o end)) (value-read b v hv)
     ∙ ap (λ m. and_then (close_read c.at m rest) (λ behind. Ok (with_option o b flags, behind))) hc
 
 no-flag-read : (flags : Flags) (end : ℕ) (t : Word) → mark t ≡ Text → maybe_flag flags end (t ∷ []) ≡ Ok (flags, t ∷ [])
@@ -127,9 +128,9 @@ nothing-some x h = cc
 some-nothing : {V : Type 0} {A : Type 0} (x : V) → (let o : Option V = Some x in o) ≡ None → A
 some-nothing x h = cc
 
-expected-ok : {V : Type 0} (at : ℕ) (o : Option V) (x : V) → expected_or at o ≡ Ok x → o ≡ Some x
-expected-ok at None x h = absurd (clash (Expected at wanted.Name) x h)
-expected-ok at (Some y) x h = ap Some (inj y x h)
+expected-ok : {V : Type 0} (what : Wanted) (at : ℕ) (o : Option V) (x : V) → expected_or what at o ≡ Ok x → o ≡ Some x
+expected-ok what at None x h = absurd (clash (Expected at what) x h)
+expected-ok what at (Some y) x h = ap Some (inj y x h)
 
 -- a name that isn't reserved, with what its text gives
 free-found : {V : Type 0} (f : List ℕ → Option V) (w : Word) (x : V) (m : Mark) → mark w ≡ m → option_and_then f (free_mark m w.text) ≡ Some x → (mark w ≡ Free) × (f w.text ≡ Some x)
@@ -193,10 +194,10 @@ record OptionAt (flags : Flags) (ws : List Word) (p : HintOption × List Word) :
   free : given p.0 flags ≡ None
 
 option-at-found : (flags : Flags) (end : ℕ) (ws : List Word) (p : HintOption × List Word) → option_at flags end ws ≡ Ok p → OptionAt flags ws p
-option-at-found flags end [] p h = absurd (clash (Expected end wanted.Name) p h)
+option-at-found flags end [] p h = absurd (clash (Expected end wanted.HintOption) p h)
 option-at-found flags end (n ∷ ws) p h =
-    let m = and_then_ok (expected_or n.at (option_of flags n)) (λ o. Ok (o, ws)) p h in
-    let f = option-found flags n m.0 (expected-ok n.at (option_of flags n) m.0 m.1) in
+    let m = and_then_ok (expected_or wanted.HintOption n.at (option_of flags n)) (λ o. Ok (o, ws)) p h in
+    let f = option-found flags n m.0 (expected-ok wanted.HintOption n.at (option_of flags n) m.0 m.1) in
     let P : HintOption × List Word → Type 0 = OptionAt flags (n ∷ ws) in
     subst P (inj (m.0, ws) p m.2) (record { name = n; whole = refl; word = f.0; free = f.1 })
 
@@ -206,18 +207,18 @@ record ValueAt (ws : List Word) (p : Bool × List Word) : Type 0 where
   word : IsWord name (value_text p.0)
 
 value-at-found : (end : ℕ) (ws : List Word) (p : Bool × List Word) → value_at end ws ≡ Ok p → ValueAt ws p
-value-at-found end [] p h = absurd (clash (Expected end wanted.Name) p h)
+value-at-found end [] p h = absurd (clash (Expected end wanted.TruthValue) p h)
 value-at-found end (v ∷ ws) p h =
-    let m = and_then_ok (expected_or v.at (value_of v)) (λ b. Ok (b, ws)) p h in
+    let m = and_then_ok (expected_or wanted.TruthValue v.at (value_of v)) (λ b. Ok (b, ws)) p h in
     let P : Bool × List Word → Type 0 = ValueAt (v ∷ ws) in
-    subst P (inj (m.0, ws) p m.2) (record { name = v; whole = refl; word = value-found v m.0 (expected-ok v.at (value_of v) m.0 m.1) })
+    subst P (inj (m.0, ws) p m.2) (record { name = v; whole = refl; word = value-found v m.0 (expected-ok wanted.TruthValue v.at (value_of v) m.0 m.1) })
 
 assign-by : (a : Word) (xs rest : List Word) (m : Mark) → mark a ≡ m → assign_read a.at m xs ≡ Ok rest → (mark a ≡ Assign) × (xs ≡ rest)
 assign-by a xs rest Assign hm h = (hm, inj xs rest h)
-assign-by a xs rest m hm h = absurd (clash (Expected a.at wanted.SignOrEnd) rest h)
+assign-by a xs rest m hm h = absurd (clash (Expected a.at wanted.Assign) rest h)
 
 assign-found : (end : ℕ) (ws rest : List Word) → after_assign end ws ≡ Ok rest → (a : Word) × (mark a ≡ Assign) × (ws ≡ a ∷ rest)
-assign-found end [] rest h = absurd (clash (Expected end wanted.SignOrEnd) rest h)
+assign-found end [] rest h = absurd (clash (Expected end wanted.Assign) rest h)
 assign-found end (a ∷ xs) rest h = let k = assign-by a xs rest (mark a) refl h in (a, k.0, ap (λ t. a ∷ t) k.1)
 
 -- one more option, or none

@@ -96,11 +96,11 @@ abbrev expr_mark : (end depth : ℕ) → Word → Mark → List Word → Read (E
 expr_mark end depth w m ws inner = elim m [
   | Free ↦ with_name w (args_from end depth 0 ws)
   | Open ↦ if nat_le 100 depth then Err (Deep w.at) else closed end inner
-  | _ ↦ Err (Expected w.at wanted.Term)
+  | _ ↦ Err (Expected w.at wanted.Expression)
 ]
 
 abbrev close_read : ℕ → Mark → List Word → Read (List Word)
-close_read at m ws = elim m [ Close ↦ Ok ws | _ ↦ Err (Expected at wanted.SignOrEnd) ]
+close_read at m ws = elim m [ Close ↦ Ok ws | _ ↦ Err (Expected at wanted.CloseParen) ]
 
 pub expr_read : {end depth : ℕ} {ws next : List Word} {e : Expression} → IsExpression end depth ws next e → BeginsNone next → expr_at end depth (ws ++ next) ≡ Ok (e, next)
 expr_read {end = end} (applied depth w ws next args h a) b =
@@ -197,10 +197,10 @@ name-ok w (Err e) p h = absurd (clash e p h)
 
 close-ok : (c : Word) (cs : List Word) (rest : List Word) (m : Mark) → mark c ≡ m → close_read c.at m cs ≡ Ok rest → (mark c ≡ Close) × (cs ≡ rest)
 close-ok c cs rest Close hm h = (hm, inj cs rest h)
-close-ok c cs rest m hm h = absurd (clash (Expected c.at wanted.SignOrEnd) rest h)
+close-ok c cs rest m hm h = absurd (clash (Expected c.at wanted.CloseParen) rest h)
 
 pub after_close_ok : (end : ℕ) (ws rest : List Word) → after_close end ws ≡ Ok rest → (c : Word) × (mark c ≡ Close) × (ws ≡ c ∷ rest)
-after_close_ok end [] rest h = absurd (clash (Expected end wanted.SignOrEnd) rest h)
+after_close_ok end [] rest h = absurd (clash (Expected end wanted.CloseParen) rest h)
 after_close_ok end (c ∷ cs) rest h = let k = close-ok c cs rest (mark c) refl h in (c, k.0, ap (λ t. c ∷ t) k.1)
 
 closed-ok : (end : ℕ) (r : Read (Expression × List Word)) (p : Expression × List Word) → closed end r ≡ Ok p
@@ -236,17 +236,17 @@ mark-found end depth w ws p Open hm rec h =
           let k = closed-ok end (expr_at end (depth + 1) ws) p g in
           close-found end depth w ws k.0 p k.2 hm (leb-false 100 depth e) k.3 k.4 k.5 (rec k.0 k.1)
     ] refl h
-mark-found end depth w ws p m hm rec h = absurd (clash (Expected w.at wanted.Term) p h)
+mark-found end depth w ws p m hm rec h = absurd (clash (Expected w.at wanted.Expression) p h)
 
 pub expr_found : (end depth : ℕ) (ws : List Word) (p : Expression × List Word) → expr_at end depth ws ≡ Ok p → ExpressionIn end depth ws p
-expr_found end depth [] p h = absurd (clash (Expected end wanted.Term) p h)
+expr_found end depth [] p h = absurd (clash (Expected end wanted.Expression) p h)
 expr_found end depth (w ∷ ws) p h = mark-found end depth w ws p (mark w) refl (λ q e. expr_found end (depth + 1) ws q e) h
 
 -- ---- an expression and nothing behind it
 
 pub ended_ok : {V : Type 0} (x y : V) (rest : List Word) → ended x rest ≡ Ok y → (rest ≡ []) × (x ≡ y)
 ended_ok x y [] h = (refl, inj x y h)
-ended_ok x y (w ∷ ws) h = absurd (clash (Expected w.at wanted.SignOrEnd) y h)
+ended_ok x y (w ∷ ws) h = absurd (clash (Expected w.at wanted.EndOfItem) y h)
 
 pub exact_read : (end : ℕ) (ws : List Word) (e : Expression) → IsExpression end 0 ws [] e → exact_at end ws ≡ Ok e
 exact_read end ws e i = ap (λ r. and_then r (λ p. ended p.0 p.1)) (ap (expr_at end 0) (sym (append-nil ws)) ∙ expr_read i tt)

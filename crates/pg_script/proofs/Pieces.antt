@@ -12,7 +12,7 @@ use Rattle.pg_script.specs.declared.span.Until.{Until}
 use Rattle.pg_script.specs.declared.span.Until.TheVariants as until
 use Rattle.pg_script.specs.Data.{Part}
 use Rattle.pg_script.specs.Marks.{mark, place}
-use Rattle.pg_script.specs.Lines.{Read, and_then, stops, may_end, more, length_step, length_until, part_of, some_part, part_at}
+use Rattle.pg_script.specs.Lines.{Read, and_then, stops, may_end, more, length_step, length_until, part_of, some_part, past_part, closes_first, part_at}
 use Rattle.pg_script.specs.Forms.{is_open, is_close, Matches, no_token, a_token, nested, IsPiece, piece}
 use Rattle.pg_script.proofs.Lists.{more_more, more_none}
 use Rattle.pg_script.proofs.Found.{clash, and_then_ok, inj}
@@ -56,20 +56,20 @@ close-stops m h = other_way h
 
 -- ---- one token
 
-abbrev mark_step : (base depth at : ℕ) → Mark → (same deeper outer : Read ℕ) → Read ℕ
-mark_step base depth at m same deeper outer = elim m [
+abbrev mark_step : Until → (base depth at : ℕ) → Mark → (same deeper outer : Read ℕ) → Read ℕ
+mark_step u base depth at m same deeper outer = elim m [
   | Open ↦ if nat_le 100 depth then Err (Deep at) else more 1 deeper
-  | Close ↦ if depth == base then Err (Expected at wanted.SignOrEnd) else more 1 outer
+  | Close ↦ if depth == base then Err (Expected at (past_part u)) else more 1 outer
   | _ ↦ more 1 same
 ]
 
-step-other : (base depth at : ℕ) (m : Mark) (same deeper outer : Read ℕ) → IsFalse (open_mark m) → IsFalse (close_mark m) → mark_step base depth at m same deeper outer ≡ more 1 same
-step-other base depth at Open same deeper outer o c = no_way o
-step-other base depth at Close same deeper outer o c = no_way c
-step-other base depth at m same deeper outer o c = refl
+step-other : (u : Until) (base depth at : ℕ) (m : Mark) (same deeper outer : Read ℕ) → IsFalse (open_mark m) → IsFalse (close_mark m) → mark_step u base depth at m same deeper outer ≡ more 1 same
+step-other u base depth at Open same deeper outer o c = no_way o
+step-other u base depth at Close same deeper outer o c = no_way c
+step-other u base depth at m same deeper outer o c = refl
 
-step-on : (u : Until) (base depth at : ℕ) (m : Mark) (same deeper outer : Read ℕ) → IsFalse ((depth == base) && stops u m) → length_step u base depth at m same deeper outer ≡ mark_step base depth at m same deeper outer
-step-on u base depth at m same deeper outer h = ap (λ b. if b then Ok 0 else mark_step base depth at m same deeper outer) h
+step-on : (u : Until) (base depth at : ℕ) (m : Mark) (same deeper outer : Read ℕ) → IsFalse ((depth == base) && stops u m) → length_step u base depth at m same deeper outer ≡ mark_step u base depth at m same deeper outer
+step-on u base depth at m same deeper outer h = ap (λ b. if b then Ok 0 else mark_step u base depth at m same deeper outer) h
 
 opens : (u : Until) (end base depth : ℕ) (o : Word) (xs : List Word) → mark o ≡ Open → depth < 100 → length_until u end base depth (o ∷ xs) ≡ more 1 (length_until u end base (depth + 1) xs)
 opens u end base depth o xs h lt =
@@ -83,7 +83,7 @@ closes u end base depth c xs h le =
     let back : depth + 1 - 1 ≡ depth = omega arith in
     ap (λ m. length_step u base (depth + 1) c.at m (length_until u end base (depth + 1) xs) (length_until u end base (depth + 1 + 1) xs) (length_until u end base (depth + 1 - 1) xs)) h
     ∙ step-on u base (depth + 1) c.at Close (length_until u end base (depth + 1) xs) (length_until u end base (depth + 1 + 1) xs) (length_until u end base (depth + 1 - 1) xs) (ap (λ b. b && stops u Close) no)
-    ∙ ap (λ b. if b then Err (Expected c.at wanted.SignOrEnd) else more 1 (length_until u end base (depth + 1 - 1) xs)) no
+    ∙ ap (λ b. if b then Err (Expected c.at (past_part u)) else more 1 (length_until u end base (depth + 1 - 1) xs)) no
     ∙ ap (λ d. more 1 (length_until u end base d xs)) back
 
 -- ---- what matches is counted
@@ -103,7 +103,7 @@ over : {inner : Until} {depth : ℕ} {ws : List Word} (u : Until) (end base : �
 over u end base rest (no_token i depth) le stays = sym (more_none (length_until u end base depth rest))
 over u end base rest (a_token i depth w ws not_o nc ns m) le stays =
     step-on u base depth w.at (mark w) (length_until u end base depth (ws ++ rest)) (length_until u end base (depth + 1) (ws ++ rest)) (length_until u end base (depth - 1) (ws ++ rest)) (stays (mark w) nc ns)
-    ∙ step-other base depth w.at (mark w) (length_until u end base depth (ws ++ rest)) (length_until u end base (depth + 1) (ws ++ rest)) (length_until u end base (depth - 1) (ws ++ rest)) not_o nc
+    ∙ step-other u base depth w.at (mark w) (length_until u end base depth (ws ++ rest)) (length_until u end base (depth + 1) (ws ++ rest)) (length_until u end base (depth - 1) (ws ++ rest)) not_o nc
     ∙ ap (more 1) (over u end base rest m le stays)
     ∙ add 1 (length ws) (suc (length ws)) (length_until u end base depth rest) (omega arith)
 over u end base rest (nested i depth o c inner ws ho hc lt m k) le stays =
@@ -122,9 +122,9 @@ Ends u [] = IsTrue (may_end u)
 Ends u (w ∷ ws) = IsTrue (stops u (mark w))
 
 stop-here : (u : Until) (end base : ℕ) (rest : List Word) → Ends u rest → length_until u end base base rest ≡ Ok 0
-stop-here u end base [] e = ap (λ b. if b then Ok 0 else Err (Expected end wanted.SignOrEnd)) (and_yes (base == base) (may_end u) (eq-eqb base base refl) e)
+stop-here u end base [] e = ap (λ b. if b then Ok 0 else Err (Expected end wanted.CloseParen)) (and_yes (base == base) (may_end u) (eq-eqb base base refl) e)
 stop-here u end base (w ∷ ws) e =
-    ap (λ b. if b then Ok 0 else mark_step base base w.at (mark w) (length_until u end base base ws) (length_until u end base (base + 1) ws) (length_until u end base (base - 1) ws))
+    ap (λ b. if b then Ok 0 else mark_step u base base w.at (mark w) (length_until u end base base ws) (length_until u end base (base + 1) ws) (length_until u end base (base - 1) ws))
     (and_yes (base == base) (stops u (mark w)) (eq-eqb base base refl) e)
 
 ends-count : (u i : Until) (end base : ℕ) (ws rest : List Word) → Matches i base ws → Stays i u base base → Ends u rest → length_until u end base base (ws ++ rest) ≡ Ok (length ws)
@@ -203,7 +203,7 @@ close-found u end base depth (suc k) w ws n rec at hm ne h =
     longer u base (suc k) k w ws m.0 n c m.2 (front-close u base w hm c.inner)
 
 mark-found : (u : Until) (end base depth k : ℕ) (w : Word) (ws : List Word) (n : ℕ) (m : Mark) → Counted u end base ws → depth ≡ base + k → mark w ≡ m → IsFalse ((depth == base) && stops u (mark w))
-    → mark_step base depth w.at m (length_until u end base depth ws) (length_until u end base (depth + 1) ws) (length_until u end base (depth - 1) ws) ≡ Ok n → Counts u base k (w ∷ ws) n
+    → mark_step u base depth w.at m (length_until u end base depth ws) (length_until u end base (depth + 1) ws) (length_until u end base (depth - 1) ws) ≡ Ok n → Counts u base k (w ∷ ws) n
 mark-found u end base depth k w ws n Open rec at hm ns h =
     elim (nat_le 100 depth) as (λ b. nat_le 100 depth ≡ b → (if b then Err (Deep w.at) else more 1 (length_until u end base (depth + 1) ws)) ≡ Ok n → Counts u base k (w ∷ ws) n) [
       | true ↦ λ e g. absurd (clash (Deep w.at) n g)
@@ -214,8 +214,8 @@ mark-found u end base depth k w ws n Open rec at hm ns h =
           longer u base k (suc k) w ws j.0 n c j.2 (front-open u base w hm (omega (arith, lt, at)) c.inner)
     ] refl h
 mark-found u end base depth k w ws n Close rec at hm ns h =
-    elim (depth == base) as (λ b. (depth == base) ≡ b → (if b then Err (Expected w.at wanted.SignOrEnd) else more 1 (length_until u end base (depth - 1) ws)) ≡ Ok n → Counts u base k (w ∷ ws) n) [
-      | true ↦ λ e g. absurd (clash (Expected w.at wanted.SignOrEnd) n g)
+    elim (depth == base) as (λ b. (depth == base) ≡ b → (if b then Err (Expected w.at (past_part u)) else more 1 (length_until u end base (depth - 1) ws)) ≡ Ok n → Counts u base k (w ∷ ws) n) [
+      | true ↦ λ e g. absurd (clash (Expected w.at (past_part u)) n g)
       | false ↦ λ e g. close-found u end base depth k w ws n rec at hm e g
     ] refl h
 mark-found u end base depth k w ws n m rec at hm ns h =
@@ -225,13 +225,13 @@ mark-found u end base depth k w ws n m rec at hm ns h =
 
 counted : (u : Until) (end base depth k : ℕ) (ws : List Word) (n : ℕ) → depth ≡ base + k → length_until u end base depth ws ≡ Ok n → Counts u base k ws n
 counted u end base depth k [] n at h =
-    elim ((depth == base) && may_end u) as (λ b. ((depth == base) && may_end u) ≡ b → (if b then Ok 0 else Err (Expected end wanted.SignOrEnd)) ≡ Ok n → Counts u base k [] n) [
+    elim ((depth == base) && may_end u) as (λ b. ((depth == base) && may_end u) ≡ b → (if b then Ok 0 else Err (Expected end wanted.CloseParen)) ≡ Ok n → Counts u base k [] n) [
       | true ↦ λ e g. let both = and_parts (depth == base) (may_end u) e in stopped u base depth k [] n at both.0 both.1 (inj 0 n g)
-      | false ↦ λ e g. absurd (clash (Expected end wanted.SignOrEnd) n g)
+      | false ↦ λ e g. absurd (clash (Expected end wanted.CloseParen) n g)
     ] refl h
 counted u end base depth k (w ∷ ws) n at h =
     elim ((depth == base) && stops u (mark w)) as (λ b. ((depth == base) && stops u (mark w)) ≡ b
-    → (if b then Ok 0 else mark_step base depth w.at (mark w) (length_until u end base depth ws) (length_until u end base (depth + 1) ws) (length_until u end base (depth - 1) ws)) ≡ Ok n → Counts u base k (w ∷ ws) n) [
+    → (if b then Ok 0 else mark_step u base depth w.at (mark w) (length_until u end base depth ws) (length_until u end base (depth + 1) ws) (length_until u end base (depth - 1) ws)) ≡ Ok n → Counts u base k (w ∷ ws) n) [
       | true ↦ λ e g. let both = and_parts (depth == base) (stops u (mark w)) e in stopped u base depth k (w ∷ ws) n at both.0 both.1 (inj 0 n g)
       | false ↦ λ e g. mark-found u end base depth k w ws n (mark w) (λ d i j. counted u end base d i ws j) at refl e g
     ] refl h
@@ -259,9 +259,17 @@ some-read what end ws rest some =
     ∙ ap (λ d. Ok (piece end (take (length ws) (ws ++ rest)) d, d)) (drop_at ws rest (length ws) refl)
     ∙ ap (λ t. Ok (piece end t rest, rest)) (take_at ws rest (length ws) refl)
 
+-- tokens whose parentheses match don't begin with a closing one
+open-first : {u : Until} {depth : ℕ} {ws : List Word} → Matches u depth ws → (rest : List Word) → 0 < length ws → closes_first (ws ++ rest) ≡ false
+open-first (no_token u depth) rest some = absurd (omega (arith, some))
+open-first (a_token u depth w ws not_o not_c ns m) rest some = not_c
+open-first (nested u depth o c inner ws ho hc lt m k) rest some = ap close_mark ho
+
 pub part_read : (what : Wanted) (u : Until) (end : ℕ) (ws rest : List Word) → IsPiece u ws → Ends u rest → part_at what u end (ws ++ rest) ≡ Ok (piece end ws rest, rest)
 part_read what u end ws rest p e =
-    ap (λ r. and_then r (λ n. some_part what end n (ws ++ rest))) (piece_count u end ws rest p.1 e) ∙ some-read what end ws rest p.0
+    ap (λ b. if b then Err (Expected (place end (ws ++ rest)) what) else and_then (length_until u end 0 0 (ws ++ rest)) (λ n. some_part what end n (ws ++ rest))) (open-first p.1 rest p.0)
+    ∙ ap (λ r. and_then r (λ n. some_part what end n (ws ++ rest))) (piece_count u end ws rest p.1 e)
+    ∙ some-read what end ws rest p.0
 
 pub record PartFound (u : Until) (end : ℕ) (ws : List Word) (p : Part × List Word) : Type 0 where
   pub front : List Word
@@ -277,10 +285,17 @@ some-found what u end (f ∷ fs) rest p m e h =
     let some : 0 < length (f ∷ fs) = omega arith in
     record { front = f ∷ fs; rest = rest; whole = refl; inner = (some, m); ends = e; «is» = inj (piece end (f ∷ fs) rest, rest) p (sym (some-read what end (f ∷ fs) rest some) ∙ h) }
 
-pub part_found : (what : Wanted) (u : Until) (end : ℕ) (ws : List Word) (p : Part × List Word) → part_at what u end ws ≡ Ok p → PartFound u end ws p
-part_found what u end ws p h =
+found-in : (what : Wanted) (u : Until) (end : ℕ) (ws : List Word) (p : Part × List Word) → and_then (length_until u end 0 0 ws) (λ n. some_part what end n ws) ≡ Ok p → PartFound u end ws p
+found-in what u end ws p h =
     let n = and_then_ok (length_until u end 0 0 ws) (λ n. some_part what end n ws) p h in
     let c = count_found u end 0 ws n.0 n.1 in
     let P : List Word → Type 0 = λ t. PartFound u end t p in
     subst P (sym c.whole) (some-found what u end c.front c.rest p c.inner c.ends
     (sym (ap (λ k. some_part what end k ws) c.long ∙ ap (some_part what end (length c.front)) c.whole) ∙ n.2))
+
+pub part_found : (what : Wanted) (u : Until) (end : ℕ) (ws : List Word) (p : Part × List Word) → part_at what u end ws ≡ Ok p → PartFound u end ws p
+part_found what u end ws p h =
+    elim (closes_first ws) as (λ b. (if b then Err (Expected (place end ws) what) else and_then (length_until u end 0 0 ws) (λ n. some_part what end n ws)) ≡ Ok p → PartFound u end ws p) [
+      | true ↦ λ g. absurd (clash (Expected (place end ws) what) p g)
+      | false ↦ λ g. found-in what u end ws p g
+    ] h

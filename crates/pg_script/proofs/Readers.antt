@@ -124,12 +124,12 @@ args_local depth t front a = args-alike depth 0 t front a
 -- ---- one token
 
 abbrev close_mark : ℕ → Mark → List Word → Read (List Word)
-close_mark at m ws = elim m [ Close ↦ Ok ws | _ ↦ Err (Expected at wanted.SignOrEnd) ]
+close_mark at m ws = elim m [ Close ↦ Ok ws | _ ↦ Err (Expected at wanted.CloseParen) ]
 
 close-begins : {V : Type 0} (x : V) (t : Two) (at : ℕ) (m : Mark) (fs : List Word) → AtToken t.Front at → Along t.Front fs
     → Alike t (and_then (close_mark at m (fs ++ t.back)) (λ rest. Ok (x, rest))) (and_then (close_mark at m (fs ++ t.other)) (λ rest. Ok (x, rest)))
 close-begins x t at Close fs here a = ok_local x t fs a
-close-begins x t at m fs here a = wrong (Expected at wanted.SignOrEnd) refl refl (here.0 wanted.SignOrEnd)
+close-begins x t at m fs here a = wrong (Expected at wanted.CloseParen) refl refl (here.0 wanted.CloseParen)
 
 pub close_local : {V : Type 0} (x : V) → Local (λ end ws. and_then (after_close end ws) (λ rest. Ok (x, rest)))
 close_local x = by_token (λ end ws. and_then (after_close end ws) (λ rest. Ok (x, rest))) (λ P end e. e _) (λ t w fs here a. close-begins x t w.at (mark w) fs here a)
@@ -154,7 +154,7 @@ abbrev expr_mark : (end depth : ℕ) → Word → Mark → List Word → Read (E
 expr_mark end depth w m ws inner = elim m [
   | Free ↦ with_name w (args_from end depth 0 ws)
   | Open ↦ if nat_le 100 depth then Err (Deep w.at) else closed end inner
-  | _ ↦ Err (Expected w.at wanted.Term)
+  | _ ↦ Err (Expected w.at wanted.Expression)
 ]
 
 expr-begins : (depth : ℕ) (t : Two) (w : Word) (m : Mark) (fs : List Word) (r s : Read (Expression × List Word)) → AtToken t.Front w.at → Along t.Front fs → Alike t r s
@@ -166,7 +166,7 @@ expr-begins depth t w Open fs r s here a h = elim (nat_le 100 depth) as (λ x. A
   | true ↦ wrong (Deep w.at) refl refl here.2
   | false ↦ closed-alike t r s h
 ]
-expr-begins depth t w m fs r s here a h = wrong (Expected w.at wanted.Term) refl refl (here.0 wanted.Term)
+expr-begins depth t w m fs r s here a h = wrong (Expected w.at wanted.Expression) refl refl (here.0 wanted.Expression)
 
 expr-leaves : (depth : ℕ) (P : ScriptFault → Type 0) (end : ℕ) (ws : List Word) → Along P ws → AtEnd P end → Leaves P (expr_at end depth ws)
 expr-leaves depth P end [] a e = e _

@@ -343,15 +343,15 @@ next-stands : (sample : Bool) (end budget column room left : ℕ) (front rest : 
 next-stands sample end budget column room left front [] x e k more i le rec h = let q : List Entry × ℕ × List Word = (x ∷ [], left, []) in absurd (not-ok q e h)
 next-stands sample end budget column room left front (r ∷ rs) x e k more i le rec h =
     elim (r.first && nat_lt r.column column) as (λ c. (r.first && nat_lt r.column column) ≡ c → entries_after x left (r ∷ rs) more
-    (if c then Ok None else (if r.first && (r.column == column) then Ok (Some (r ∷ rs)) else (if is_semicolon r then after_semicolon column end rs else Err (Expected r.at wanted.SignOrEnd)))) ≡ Err e → Stands (ResumesBlock sample column front) end (r ∷ rs) e) [
+    (if c then Ok None else (if r.first && (r.column == column) then Ok (Some (r ∷ rs)) else (if is_semicolon r then after_semicolon column end rs else Err (Expected r.at wanted.EndOfItem)))) ≡ Err e → Stands (ResumesBlock sample column front) end (r ∷ rs) e) [
       | true ↦ λ a g. (let q : List Entry × ℕ × List Word = (x ∷ [], left, r ∷ rs) in absurd (not-ok q e g))
       | false ↦ λ a g. elim (r.first && (r.column == column)) as (λ c. (r.first && (r.column == column)) ≡ c → entries_after x left (r ∷ rs) more
-          (if c then Ok (Some (r ∷ rs)) else (if is_semicolon r then after_semicolon column end rs else Err (Expected r.at wanted.SignOrEnd))) ≡ Err e → Stands (ResumesBlock sample column front) end (r ∷ rs) e) [
+          (if c then Ok (Some (r ∷ rs)) else (if is_semicolon r then after_semicolon column end rs else Err (Expected r.at wanted.EndOfItem))) ≡ Err e → Stands (ResumesBlock sample column front) end (r ∷ rs) e) [
             | true ↦ λ b m. line-from sample end budget column room left front rs r x e i (a, b) (rec r rs e le (entry-fault x (more (r ∷ rs)) e m))
             | false ↦ λ b m. elim (is_semicolon r) as (λ c. is_semicolon r ≡ c → entries_after x left (r ∷ rs) more
-                (if c then after_semicolon column end rs else Err (Expected r.at wanted.SignOrEnd)) ≡ Err e → Stands (ResumesBlock sample column front) end (r ∷ rs) e) [
+                (if c then after_semicolon column end rs else Err (Expected r.at wanted.EndOfItem)) ≡ Err e → Stands (ResumesBlock sample column front) end (r ∷ rs) e) [
                   | true ↦ λ s z. after-stands sample end budget column room left front rs r x e k more i (a, b, s) (omega (arith, le)) rec z
-                  | false ↦ λ s z. err-at (Stands (ResumesBlock sample column front) end (r ∷ rs)) (Expected r.at wanted.SignOrEnd) e z (inl (refl, alone sample end budget column room left front (r ∷ rs) x i))
+                  | false ↦ λ s z. err-at (Stands (ResumesBlock sample column front) end (r ∷ rs)) (Expected r.at wanted.EndOfItem) e z (inl (refl, alone sample end budget column room left front (r ∷ rs) x i))
                 ] refl m
           ] refl g
     ] refl h
@@ -436,7 +436,7 @@ ended-stands sample end w more (r ∷ rs) es e b h =
     let P : ScriptFault → Type 0 = Stands (BeginsScript sample) end (w ∷ more ++ r ∷ rs) in
     let Q : List Word → Type 0 = LaysBlock sample w.column [] in
     let l = long-of sample w ((more ++ []) ++ []) (subst Q (ap (λ z. w ∷ z) (sym (append-nil (more ++ []) ∙ append-nil more))) b) in
-    subst P (fault-is {V = List Entry} (Expected r.at wanted.SignOrEnd) e h) (stands_behind (BeginsScript sample) end (w ∷ more) (r ∷ rs) (Expected r.at wanted.SignOrEnd) (inl (refl, ([], 0, l.0, l.1))))
+    subst P (fault-is {V = List Entry} (Expected r.at wanted.EndOfItem) e h) (stands_behind (BeginsScript sample) end (w ∷ more) (r ∷ rs) (Expected r.at wanted.EndOfItem) (inl (refl, ([], 0, l.0, l.1))))
 
 script-by : (sample : Bool) (end : ℕ) (w : Word) (ws : List Word) (e : ScriptFault) (r : ReadEntries) → block_at 16 sample end 200 (w ∷ ws) ≡ r → and_then r (λ b. ended b.0 b.2) ≡ Err e → Stands (BeginsScript sample) end (w ∷ ws) e
 script-by sample end w ws e (Err f) is h =

@@ -146,7 +146,9 @@ unhead F R f w end ws (Err e) (inr h) = inr h
 abbrev rule_mark : ℕ → Mark → Word → List Word → Read (Rule × List Word)
 rule_mark end m w ws = elim m [
   | LeftArrow ↦ and_then (expr_at end 0 ws) (λ p. Ok ((let r : Rule = record { back = true; expr = p.0 } in r), p.1))
-  | _ ↦ and_then (expr_at end 0 (w ∷ ws)) (λ p. Ok ((let r : Rule = record { back = false; expr = p.0 } in r), p.1))
+  | Free ↦ and_then (expr_at end 0 (w ∷ ws)) (λ p. Ok ((let r : Rule = record { back = false; expr = p.0 } in r), p.1))
+  | Open ↦ and_then (expr_at end 0 (w ∷ ws)) (λ p. Ok ((let r : Rule = record { back = false; expr = p.0 } in r), p.1))
+  | _ ↦ Err (Expected w.at wanted.Rule)
 ]
 
 ruled-answer : (k : Expression → Rule) (end : ℕ) (ws : List Word) → PieceAnswer IsSome Shut (λ x y. Unit {0}) (ruled k) end ws (and_then (expr_at end 0 ws) (λ p. Ok (k p.0, p.1)))
@@ -154,7 +156,9 @@ ruled-answer k end ws = map_piece IsSome Shut (expr_reader 0) k end ws (expr_at 
 
 rule-head : (m : Mark) (w : Word) (end : ℕ) (ws : List Word) → HeadPiece Shut (λ x y. Unit {0}) (λ room n zs. rule_mark n m w zs) w.at end ws (rule_mark end m w ws)
 rule-head LeftArrow w end ws = piece_on IsSome Shut (λ x y. Unit {0}) (ruled backward) w.at end ws (and_then (expr_at end 0 ws) (λ p. Ok (backward p.0, p.1))) (ruled-answer backward end ws)
-rule-head m w end ws = unhead Shut (λ x y. Unit {0}) (ruled forward) w end ws (and_then (expr_at end 0 (w ∷ ws)) (λ p. Ok (forward p.0, p.1))) (ruled-answer forward end (w ∷ ws))
+rule-head Free w end ws = unhead Shut (λ x y. Unit {0}) (ruled forward) w end ws (and_then (expr_at end 0 (w ∷ ws)) (λ p. Ok (forward p.0, p.1))) (ruled-answer forward end (w ∷ ws))
+rule-head Open w end ws = unhead Shut (λ x y. Unit {0}) (ruled forward) w end ws (and_then (expr_at end 0 (w ∷ ws)) (λ p. Ok (forward p.0, p.1))) (ruled-answer forward end (w ∷ ws))
+rule-head m w end ws = inl refl
 
 rule-piece : (room : ℕ) → Piece IsSome Shut (λ x y. Unit {0}) room rule_reader
 rule-piece room end [] = (refl, rule-begin)
@@ -182,7 +186,7 @@ abbrev rule_end_mark : Mark → (at : ℕ) → List Word → Read (Bool × List 
 rule_end_mark m at ws = elim m [
   | Comma ↦ Ok (true, ws)
   | CloseBracket ↦ Ok (false, ws)
-  | _ ↦ Err (Expected at wanted.SignOrEnd)
+  | _ ↦ Err (Expected at wanted.CommaOrBracket)
 ]
 
 abbrev rules_behind : Rule → (room end : ℕ) → Bool × List Word → Read (List Rule × List Word)
@@ -248,7 +252,7 @@ rules-begin : Reaches Whatever rules_reader []
 rules-begin = (some_name ∷ bracket, (refl, refl, (refl, refl, tt)), λ n tail s. rules-takes n tail)
 
 abbrev no_rule_mark : Mark → (at : ℕ) → ScriptFault
-no_rule_mark m at = elim m [ Free ↦ TooMany at | Open ↦ TooMany at | LeftArrow ↦ TooMany at | _ ↦ Expected at wanted.Term ]
+no_rule_mark m at = elim m [ Free ↦ TooMany at | Open ↦ TooMany at | LeftArrow ↦ TooMany at | _ ↦ Expected at wanted.Rule ]
 
 no-rule-at : (m : Mark) (at : ℕ) → At at (no_rule_mark m at)
 no-rule-at Free at = refl
@@ -271,7 +275,7 @@ bracketed-begin =
     (sign_word sign.OpenBracket ∷ some_name ∷ bracket, (refl, refl, (refl, refl, (refl, refl, tt))), λ n tail s. let t = rules-takes n tail in (t.0, t.1, tt, λ room le. t.3 room le))
 
 abbrev bracket_mark : (room end : ℕ) → Mark → (at : ℕ) → List Word → Read (List Rule × List Word)
-bracket_mark room end m at ws = elim m [ OpenBracket ↦ rules_at room end ws | _ ↦ Err (Expected at wanted.SignOrEnd) ]
+bracket_mark room end m at ws = elim m [ OpenBracket ↦ rules_at room end ws | _ ↦ Err (Expected at wanted.OpenBracket) ]
 
 bracketed-head : (room : ℕ) (m : Mark) (at end : ℕ) (ws : List Word) → HeadPiece Whatever (λ a b. Unit {0}) (λ r n zs. bracket_mark r n m at zs) at end ws (bracket_mark room end m at ws)
 bracketed-head room OpenBracket at end ws = piece_on IsSome Whatever (λ a b. Unit {0}) rules_reader at end ws (rules_at room end ws) (rules-piece room end ws)

@@ -22,22 +22,22 @@ use Rattle.pg_script.proofs.Moves.{unless-ok, names-read, names-found, steps-rea
 -- ---- what has a form is read
 
 abbrev bracket_mark : (room end : ℕ) → Mark → (at : ℕ) → List Word → Read (List Rule × List Word)
-bracket_mark room end m at ws = elim m [ OpenBracket ↦ rules_at room end ws | _ ↦ Err (Expected at wanted.SignOrEnd) ]
+bracket_mark room end m at ws = elim m [ OpenBracket ↦ rules_at room end ws | _ ↦ Err (Expected at wanted.OpenBracket) ]
 
 abbrev with_mark : Mark → (at : ℕ) → List Word → Read (List Word)
-with_mark m at ws = elim m [ With ↦ unless_fault (names_fault ws) ws | _ ↦ Err (Expected at wanted.SignOrEnd) ]
+with_mark m at ws = elim m [ With ↦ unless_fault (names_fault ws) ws | _ ↦ Err (Expected at wanted.WithOrEnd) ]
 
 abbrev have_mark : ℕ → Word → Mark → (at : ℕ) → List Word → Read Shape
 have_mark end name m at ws = elim m [
   | Colon ↦ have_formula end name ws
   | Assign ↦ and_then (exact_at end ws) (λ e. Ok (have name None (Some e)))
-  | _ ↦ Err (Expected at wanted.SignOrEnd)
+  | _ ↦ Err (Expected at wanted.ColonOrAssign)
 ]
 
 abbrev cases_mark : ℕ → Word → Mark → (at : ℕ) → List Word → Read Shape
 cases_mark end name m at ws = elim m [
   | Colon ↦ and_then (part_at wanted.Formula until.End end ws) (λ p. Ok (by_cases name p.0))
-  | _ ↦ Err (Expected at wanted.SignOrEnd)
+  | _ ↦ Err (Expected at wanted.Colon)
 ]
 
 formula-read : (end : ℕ) (h c : Word) (ws rest : List Word) → IsTrue (is_name h) → mark c ≡ Colon → IsPiece until.Assign ws → Ends until.Assign rest
@@ -139,10 +139,10 @@ record BracketFound (room end : ℕ) (ws : List Word) (p : List Rule × List Wor
 
 bracket-by : (room end : ℕ) (b : Word) (ws : List Word) (p : List Rule × List Word) (m : Mark) → mark b ≡ m → bracket_mark room end m b.at ws ≡ Ok p → BracketFound room end (b ∷ ws) p
 bracket-by room end b ws p OpenBracket hm h = record { bracket = b; opens = hm; inside = ws; whole = refl; rules_in = rules-found room end ws p h }
-bracket-by room end b ws p m hm h = absurd (clash (Expected b.at wanted.SignOrEnd) p h)
+bracket-by room end b ws p m hm h = absurd (clash (Expected b.at wanted.OpenBracket) p h)
 
 bracket-found : (room end : ℕ) (ws : List Word) (p : List Rule × List Word) → bracketed_rules room end ws ≡ Ok p → BracketFound room end ws p
-bracket-found room end [] p h = absurd (clash (Expected end wanted.SignOrEnd) p h)
+bracket-found room end [] p h = absurd (clash (Expected end wanted.OpenBracket) p h)
 bracket-found room end (b ∷ ws) p h = bracket-by room end b ws p (mark b) refl h
 
 rewrite-found : (room end : ℕ) (ws : List Word) (s : Shape) → rewrite_at room end ws ≡ Ok s → Formed room end head.Rw ws s
@@ -160,7 +160,7 @@ names-by : (end : ℕ) (x w : Word) (ws names : List Word) (m : Mark) → IsTrue
 names-by end x w ws names With hx hm h =
     let k = unless-ok (names_fault ws) ws names h in
     let P : List Word → Type 0 = λ t. IsForm end head.Split (x ∷ w ∷ ws) (split x t) in subst P k.1 (a_split_with x w ws hx hm (names-found ws k.0))
-names-by end x w ws names m hx hm h = absurd (clash (Expected w.at wanted.SignOrEnd) names h)
+names-by end x w ws names m hx hm h = absurd (clash (Expected w.at wanted.WithOrEnd) names h)
 
 after-name : (end : ℕ) (x : Word) (ws names : List Word) → IsTrue (is_name x) → names_after ws ≡ Ok names → IsForm end head.Split (x ∷ ws) (split x names)
 after-name end x [] names hx h = let P : List Word → Type 0 = λ t. IsForm end head.Split (x ∷ []) (split x t) in subst P (inj [] names h) (a_split x hx)
@@ -207,10 +207,10 @@ have-by room end x c ws s Colon some hx hm h =
 have-by room end x c ws s Assign some hx hm h =
     let m = and_then_ok (exact_at end ws) (λ y. Ok (have x None (Some y))) s h in
     let P : Shape → Type 0 = Formed room end head.Have (x ∷ c ∷ ws) in subst P (inj (have x None (Some m.0)) s m.2) (a_have_by x c ws m.0 hx hm (exact_found end ws m.0 m.1), some)
-have-by room end x c ws s m some hx hm h = absurd (clash (Expected c.at wanted.SignOrEnd) s h)
+have-by room end x c ws s m some hx hm h = absurd (clash (Expected c.at wanted.ColonOrAssign) s h)
 
 have-of-found : (room end : ℕ) (x : Word) (ws : List Word) (s : Shape) → 0 < room → IsTrue (is_name x) → have_of end x ws ≡ Ok s → Formed room end head.Have (x ∷ ws) s
-have-of-found room end x [] s some hx h = absurd (clash (Expected end wanted.SignOrEnd) s h)
+have-of-found room end x [] s some hx h = absurd (clash (Expected end wanted.ColonOrAssign) s h)
 have-of-found room end x (c ∷ ws) s some hx h = have-by room end x c ws s (mark c) some hx refl h
 
 have-found : (room end : ℕ) (ws : List Word) (s : Shape) → 0 < room → and_then (name_at end ws) (λ p. have_of end p.0 p.1) ≡ Ok s → Formed room end head.Have ws s
@@ -244,10 +244,10 @@ cases-by room end x c ws s Colon some hx hm h =
     let Q : List Word → Type 0 = λ t. IsForm end head.ByCases (x ∷ c ∷ t) (by_cases x m.0.0) in
     let R : Part → Type 0 = λ p. IsForm end head.ByCases (x ∷ c ∷ f.front) (by_cases x p) in
     subst P (inj (by_cases x m.0.0) s m.2) (subst Q whole (subst R same (a_by_cases x c f.front hx hm f.inner)), some)
-cases-by room end x c ws s m some hx hm h = absurd (clash (Expected c.at wanted.SignOrEnd) s h)
+cases-by room end x c ws s m some hx hm h = absurd (clash (Expected c.at wanted.Colon) s h)
 
 cases-of-found : (room end : ℕ) (x : Word) (ws : List Word) (s : Shape) → 0 < room → IsTrue (is_name x) → cases_of end x ws ≡ Ok s → Formed room end head.ByCases (x ∷ ws) s
-cases-of-found room end x [] s some hx h = absurd (clash (Expected end wanted.SignOrEnd) s h)
+cases-of-found room end x [] s some hx h = absurd (clash (Expected end wanted.Colon) s h)
 cases-of-found room end x (c ∷ ws) s some hx h = cases-by room end x c ws s (mark c) some hx refl h
 
 cases-found : (room end : ℕ) (ws : List Word) (s : Shape) → 0 < room → and_then (name_at end ws) (λ p. cases_of end p.0 p.1) ≡ Ok s → Formed room end head.ByCases ws s

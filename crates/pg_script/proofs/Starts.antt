@@ -249,12 +249,12 @@ next-leaves : (P : ScriptFault → Type 0) (column end : ℕ) (e : Entry) (room 
 next-leaves P column end e room [] more s a rec = tt
 next-leaves P column end e room (w ∷ ws) more s a rec =
     elim (w.first && nat_lt w.column column) as (λ c. Leaves P (entries_after e room (w ∷ ws) more
-    (if c then Ok None else (if w.first && (w.column == column) then Ok (Some (w ∷ ws)) else (if is_semicolon w then after_semicolon column end ws else Err (Expected w.at wanted.SignOrEnd)))))) [
+    (if c then Ok None else (if w.first && (w.column == column) then Ok (Some (w ∷ ws)) else (if is_semicolon w then after_semicolon column end ws else Err (Expected w.at wanted.EndOfItem)))))) [
       | true ↦ a
       | false ↦ elim (w.first && (w.column == column)) as (λ c. Leaves P (entries_after e room (w ∷ ws) more
-          (if c then Ok (Some (w ∷ ws)) else (if is_semicolon w then after_semicolon column end ws else Err (Expected w.at wanted.SignOrEnd))))) [
+          (if c then Ok (Some (w ∷ ws)) else (if is_semicolon w then after_semicolon column end ws else Err (Expected w.at wanted.EndOfItem))))) [
             | true ↦ with-leaves P e (more (w ∷ ws)) (rec (w ∷ ws) a)
-            | false ↦ elim (is_semicolon w) as (λ c. Leaves P (entries_after e room (w ∷ ws) more (if c then after_semicolon column end ws else Err (Expected w.at wanted.SignOrEnd)))) [
+            | false ↦ elim (is_semicolon w) as (λ c. Leaves P (entries_after e room (w ∷ ws) more (if c then after_semicolon column end ws else Err (Expected w.at wanted.EndOfItem)))) [
               | true ↦ after-leaves P column end e room (w ∷ ws) ws more s a.1 rec
               | false ↦ a.0.0 _
             ]
@@ -281,18 +281,18 @@ next-alike : (t : Two) (column : ℕ) (e : Entry) (room : ℕ) (f : Word) (fs : 
     → Alike t (entries_after e room (f ∷ fs ++ t.back) more (next_at column t.end (f ∷ fs ++ t.back))) (entries_after e room (f ∷ fs ++ t.other) more' (next_at column t.other_end (f ∷ fs ++ t.other)))
 next-alike t column e room f fs more more' a rec out =
     elim (f.first && nat_lt f.column column) as (λ c. Alike t
-    (entries_after e room (f ∷ fs ++ t.back) more (if c then Ok None else (if f.first && (f.column == column) then Ok (Some (f ∷ fs ++ t.back)) else (if is_semicolon f then after_semicolon column t.end (fs ++ t.back) else Err (Expected f.at wanted.SignOrEnd)))))
-    (entries_after e room (f ∷ fs ++ t.other) more' (if c then Ok None else (if f.first && (f.column == column) then Ok (Some (f ∷ fs ++ t.other)) else (if is_semicolon f then after_semicolon column t.other_end (fs ++ t.other) else Err (Expected f.at wanted.SignOrEnd)))))) [
+    (entries_after e room (f ∷ fs ++ t.back) more (if c then Ok None else (if f.first && (f.column == column) then Ok (Some (f ∷ fs ++ t.back)) else (if is_semicolon f then after_semicolon column t.end (fs ++ t.back) else Err (Expected f.at wanted.EndOfItem)))))
+    (entries_after e room (f ∷ fs ++ t.other) more' (if c then Ok None else (if f.first && (f.column == column) then Ok (Some (f ∷ fs ++ t.other)) else (if is_semicolon f then after_semicolon column t.other_end (fs ++ t.other) else Err (Expected f.at wanted.EndOfItem)))))) [
       | true ↦ kept (e ∷ []) room f fs refl refl a
       | false ↦ elim (f.first && (f.column == column)) as (λ c. Alike t
-          (entries_after e room (f ∷ fs ++ t.back) more (if c then Ok (Some (f ∷ fs ++ t.back)) else (if is_semicolon f then after_semicolon column t.end (fs ++ t.back) else Err (Expected f.at wanted.SignOrEnd))))
-          (entries_after e room (f ∷ fs ++ t.other) more' (if c then Ok (Some (f ∷ fs ++ t.other)) else (if is_semicolon f then after_semicolon column t.other_end (fs ++ t.other) else Err (Expected f.at wanted.SignOrEnd))))) [
+          (entries_after e room (f ∷ fs ++ t.back) more (if c then Ok (Some (f ∷ fs ++ t.back)) else (if is_semicolon f then after_semicolon column t.end (fs ++ t.back) else Err (Expected f.at wanted.EndOfItem))))
+          (entries_after e room (f ∷ fs ++ t.other) more' (if c then Ok (Some (f ∷ fs ++ t.other)) else (if is_semicolon f then after_semicolon column t.other_end (fs ++ t.other) else Err (Expected f.at wanted.EndOfItem))))) [
             | true ↦ with-alike t e (more (f ∷ fs ++ t.back)) (more' (f ∷ fs ++ t.other)) (rec (f ∷ fs) a (omega arith))
             | false ↦ elim (is_semicolon f) as (λ c. Alike t
-                (entries_after e room (f ∷ fs ++ t.back) more (if c then after_semicolon column t.end (fs ++ t.back) else Err (Expected f.at wanted.SignOrEnd)))
-                (entries_after e room (f ∷ fs ++ t.other) more' (if c then after_semicolon column t.other_end (fs ++ t.other) else Err (Expected f.at wanted.SignOrEnd)))) [
+                (entries_after e room (f ∷ fs ++ t.back) more (if c then after_semicolon column t.end (fs ++ t.back) else Err (Expected f.at wanted.EndOfItem)))
+                (entries_after e room (f ∷ fs ++ t.other) more' (if c then after_semicolon column t.other_end (fs ++ t.other) else Err (Expected f.at wanted.EndOfItem)))) [
                   | true ↦ after-alike t column e room (f ∷ fs ++ t.back) (f ∷ fs ++ t.other) fs (length (f ∷ fs)) more more' a.1 (omega arith) rec out
-                  | false ↦ wrong (Expected f.at wanted.SignOrEnd) refl refl (a.0.0 wanted.SignOrEnd)
+                  | false ↦ wrong (Expected f.at wanted.EndOfItem) refl refl (a.0.0 wanted.EndOfItem)
                 ]
           ]
     ]
@@ -397,7 +397,7 @@ ended-stops : (t : Two) (r s : ReadEntries) → Alike t r s → Stops t (and_the
 ended-stops t r s (past h) = passed (ended-passes t.Past r h)
 ended-stops t r s (wrong e one two at) = faulty e (ap (λ z. and_then z (λ b. ended b.0 b.2)) one) (ap (λ z. and_then z (λ b. ended b.0 b.2)) two) at
 ended-stops t r s (kept x room f fs one two along) =
-    faulty (Expected f.at wanted.SignOrEnd) (ap (λ z. and_then z (λ b. ended b.0 b.2)) one) (ap (λ z. and_then z (λ b. ended b.0 b.2)) two) (along.0.0 _)
+    faulty (Expected f.at wanted.EndOfItem) (ap (λ z. and_then z (λ b. ended b.0 b.2)) one) (ap (λ z. and_then z (λ b. ended b.0 b.2)) two) (along.0.0 _)
 
 pub script_passes : (sample : Bool) (P : ScriptFault → Type 0) (end : ℕ) (ws : List Word) → Along P ws → AtEnd P end → Passes P (entries_of_tokens ws end sample)
 script_passes sample P end [] a s = subst (λ (z : Read (List Entry)). Passes P z) (sym (script-empty sample end)) tt

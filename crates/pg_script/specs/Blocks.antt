@@ -97,7 +97,7 @@ next_at column end (w ∷ ws) =
     if w.first && nat_lt w.column column then Ok None
     else (if w.first && (w.column == column) then Ok (Some (w ∷ ws))
     else (if is_semicolon w then after_semicolon column end ws
-    else Err (Expected w.at wanted.SignOrEnd)))
+    else Err (Expected w.at wanted.EndOfItem)))
 
 abbrev pub with_entry : Entry → ReadEntries → ReadEntries
 with_entry e (Ok (es, room, rest)) = Ok (e ∷ es, room, rest)

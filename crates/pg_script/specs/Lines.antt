@@ -51,6 +51,13 @@ abbrev pub may_end : Until → Bool
 may_end until.Close = false
 may_end _ = true
 
+-- what ends such a part where it has a token
+abbrev pub past_part : Until → Wanted
+past_part until.Close = wanted.CloseParen
+past_part until.Comma = wanted.CommaOrEnd
+past_part until.Assign = wanted.AssignOrEnd
+past_part until.End = wanted.EndOfItem
+
 abbrev pub more : ℕ → Read ℕ → Read ℕ
 more k (Ok n) = Ok (k + n)
 more k (Err e) = Err e
@@ -61,14 +68,14 @@ length_step until base depth at m same deeper outer =
     if (depth == base) && stops until m then Ok 0
     else (elim m [
       | Open ↦ if nat_le 100 depth then Err (Deep at) else more 1 deeper
-      | Close ↦ if depth == base then Err (Expected at wanted.SignOrEnd) else more 1 outer
+      | Close ↦ if depth == base then Err (Expected at (past_part until)) else more 1 outer
       | _ ↦ more 1 same
     ])
 
 -- So many tokens go before the one that stops, outside of the parentheses that they open. So many parentheses are open
 -- before them, and now.
 abbrev pub length_until : Until → (end base depth : ℕ) → List Word → Read ℕ
-length_until until end base depth [] = if (depth == base) && may_end until then Ok 0 else Err (Expected end wanted.SignOrEnd)
+length_until until end base depth [] = if (depth == base) && may_end until then Ok 0 else Err (Expected end wanted.CloseParen)
 length_until until end base depth (w ∷ ws) =
     length_step until base depth w.at (mark w) (length_until until end base depth ws) (length_until until end base (depth + 1) ws) (length_until until end base (depth - 1) ws)
 
@@ -79,8 +86,14 @@ part_of end n ws = record { tokens = take n ws; end = place end (drop n ws) }
 abbrev pub some_part : Wanted → ℕ → ℕ → List Word → Read (Part × List Word)
 some_part what end n ws = if n == 0 then Err (Expected (place end ws) what) else Ok (part_of end n ws, drop n ws)
 
+-- a closing parenthesis is the first token
+abbrev pub closes_first : List Word → Bool
+closes_first [] = false
+closes_first (w ∷ ws) = elim (mark w) [ Close ↦ true | _ ↦ false ]
+
 abbrev pub part_at : Wanted → Until → ℕ → List Word → Read (Part × List Word)
-part_at what until end ws = and_then (length_until until end 0 0 ws) (λ n. some_part what end n ws)
+part_at what until end ws =
+    if closes_first ws then Err (Expected (place end ws) what) else and_then (length_until until end 0 0 ws) (λ n. some_part what end n ws)
 
 -- ---- expressions
 
@@ -110,8 +123,8 @@ with_name w (Err e) = Err e
 
 -- what stands behind a closing parenthesis
 abbrev pub after_close : ℕ → List Word → Read (List Word)
-after_close end [] = Err (Expected end wanted.SignOrEnd)
-after_close end (w ∷ ws) = elim (mark w) [ Close ↦ Ok ws | _ ↦ Err (Expected w.at wanted.SignOrEnd) ]
+after_close end [] = Err (Expected end wanted.CloseParen)
+after_close end (w ∷ ws) = elim (mark w) [ Close ↦ Ok ws | _ ↦ Err (Expected w.at wanted.CloseParen) ]
 
 -- what was read, if a parenthesis is closed behind it
 abbrev pub closed : ℕ → Read (Expression × List Word) → Read (Expression × List Word)
@@ -120,18 +133,18 @@ closed end (Err e) = Err e
 
 -- an expression at the front, within so many parentheses
 abbrev pub expr_at : (end depth : ℕ) → List Word → Read (Expression × List Word)
-expr_at end depth [] = Err (Expected end wanted.Term)
+expr_at end depth [] = Err (Expected end wanted.Expression)
 expr_at end depth (w ∷ ws) = elim (mark w) [
   | Free ↦ with_name w (args_from end depth 0 ws)
   | Open ↦ if nat_le 100 depth then Err (Deep w.at) else closed end (expr_at end (depth + 1) ws)
-  | _ ↦ Err (Expected w.at wanted.Term)
+  | _ ↦ Err (Expected w.at wanted.Expression)
 ]
 
 -- ---- names, places and ends
 
 abbrev pub end_fault : List Word → Option ScriptFault
 end_fault [] = None
-end_fault (w ∷ ws) = Some (Expected w.at wanted.SignOrEnd)
+end_fault (w ∷ ws) = Some (Expected w.at wanted.EndOfItem)
 
 abbrev pub ended : {V : Type 0} → V → List Word → Read V
 ended x ws = unless_fault (end_fault ws) x
@@ -156,7 +169,7 @@ abbrev pub place_at : ℕ → List Word → Read (Option Word)
 place_at end [] = Ok None
 place_at end (w ∷ ws) = elim (mark w) [
   | At ↦ and_then (name_at end ws) (λ p. ended (Some p.0) p.1)
-  | _ ↦ Err (Expected w.at wanted.SignOrEnd)
+  | _ ↦ Err (Expected w.at wanted.AtOrEnd)
 ]
 
 -- the first parenthesis that opens within 100 others
@@ -171,24 +184,26 @@ deep_fault depth (w ∷ ws) = elim (mark w) [
 -- ---- the rules of `rw` and the terms of `use`: so many more steps may stand, and each is one
 
 abbrev pub rule_at : ℕ → List Word → Read (Rule × List Word)
-rule_at end [] = Err (Expected end wanted.Term)
+rule_at end [] = Err (Expected end wanted.Rule)
 rule_at end (w ∷ ws) = elim (mark w) [
   | LeftArrow ↦ and_then (expr_at end 0 ws) (λ p. Ok (record { back = true; expr = p.0 }, p.1))
-  | _ ↦ and_then (expr_at end 0 (w ∷ ws)) (λ p. Ok (record { back = false; expr = p.0 }, p.1))
+  | Free ↦ and_then (expr_at end 0 (w ∷ ws)) (λ p. Ok (record { back = false; expr = p.0 }, p.1))
+  | Open ↦ and_then (expr_at end 0 (w ∷ ws)) (λ p. Ok (record { back = false; expr = p.0 }, p.1))
+  | _ ↦ Err (Expected w.at wanted.Rule)
 ]
 
 -- one step too many, if a rule can begin here
 abbrev pub no_rule : ℕ → List Word → ScriptFault
-no_rule end [] = Expected end wanted.Term
-no_rule end (w ∷ ws) = elim (mark w) [ Free ↦ TooMany w.at | Open ↦ TooMany w.at | LeftArrow ↦ TooMany w.at | _ ↦ Expected w.at wanted.Term ]
+no_rule end [] = Expected end wanted.Rule
+no_rule end (w ∷ ws) = elim (mark w) [ Free ↦ TooMany w.at | Open ↦ TooMany w.at | LeftArrow ↦ TooMany w.at | _ ↦ Expected w.at wanted.Rule ]
 
 -- what ends a rule: a comma, behind which another one stands, or the closing bracket
 abbrev pub rule_end : ℕ → List Word → Read (Bool × List Word)
-rule_end end [] = Err (Expected end wanted.SignOrEnd)
+rule_end end [] = Err (Expected end wanted.CommaOrBracket)
 rule_end end (w ∷ ws) = elim (mark w) [
   | Comma ↦ Ok (true, ws)
   | CloseBracket ↦ Ok (false, ws)
-  | _ ↦ Err (Expected w.at wanted.SignOrEnd)
+  | _ ↦ Err (Expected w.at wanted.CommaOrBracket)
 ]
 
 -- rules with commas between them, up to the closing bracket
@@ -198,8 +213,8 @@ rules_at (suc room) end ws =
     and_then (rule_at end ws) (λ p. and_then (rule_end end p.1) (λ q. if q.0 then with_first p.0 (rules_at room end q.1) else Ok (p.0 ∷ [], q.1)))
 
 abbrev pub bracketed_rules : (room end : ℕ) → List Word → Read (List Rule × List Word)
-bracketed_rules room end [] = Err (Expected end wanted.SignOrEnd)
-bracketed_rules room end (w ∷ ws) = elim (mark w) [ OpenBracket ↦ rules_at room end ws | _ ↦ Err (Expected w.at wanted.SignOrEnd) ]
+bracketed_rules room end [] = Err (Expected end wanted.OpenBracket)
+bracketed_rules room end (w ∷ ws) = elim (mark w) [ OpenBracket ↦ rules_at room end ws | _ ↦ Err (Expected w.at wanted.OpenBracket) ]
 
 abbrev pub no_term : ℕ → List Word → ScriptFault
 no_term end [] = Expected end wanted.Term
@@ -246,21 +261,21 @@ option_of flags w = option_and_then (λ o. if is_some (given o flags) then None 
 abbrev pub value_of : Word → Option Bool
 value_of w = option_and_then value_named (free_text w)
 
-abbrev pub expected_or : {V : Type 0} → ℕ → Option V → Read V
-expected_or at None = Err (Expected at wanted.Name)
-expected_or at (Some x) = Ok x
+abbrev pub expected_or : {V : Type 0} → Wanted → ℕ → Option V → Read V
+expected_or what at None = Err (Expected at what)
+expected_or what at (Some x) = Ok x
 
 abbrev pub option_at : Flags → ℕ → List Word → Read (HintOption × List Word)
-option_at flags end [] = Err (Expected end wanted.Name)
-option_at flags end (w ∷ ws) = and_then (expected_or w.at (option_of flags w)) (λ o. Ok (o, ws))
+option_at flags end [] = Err (Expected end wanted.HintOption)
+option_at flags end (w ∷ ws) = and_then (expected_or wanted.HintOption w.at (option_of flags w)) (λ o. Ok (o, ws))
 
 abbrev pub value_at : ℕ → List Word → Read (Bool × List Word)
-value_at end [] = Err (Expected end wanted.Name)
-value_at end (w ∷ ws) = and_then (expected_or w.at (value_of w)) (λ value. Ok (value, ws))
+value_at end [] = Err (Expected end wanted.TruthValue)
+value_at end (w ∷ ws) = and_then (expected_or wanted.TruthValue w.at (value_of w)) (λ value. Ok (value, ws))
 
 abbrev pub after_assign : ℕ → List Word → Read (List Word)
-after_assign end [] = Err (Expected end wanted.SignOrEnd)
-after_assign end (w ∷ ws) = elim (mark w) [ Assign ↦ Ok ws | _ ↦ Err (Expected w.at wanted.SignOrEnd) ]
+after_assign end [] = Err (Expected end wanted.Assign)
+after_assign end (w ∷ ws) = elim (mark w) [ Assign ↦ Ok ws | _ ↦ Err (Expected w.at wanted.Assign) ]
 
 -- an option behind its opening parenthesis
 abbrev pub flag_at : Flags → ℕ → List Word → Read (Flags × List Word)
@@ -336,7 +351,7 @@ intro_at room end (w ∷ ws) = unless_fault (steps_fault room (w ∷ ws)) (intro
 
 abbrev pub names_after : List Word → Read (List Word)
 names_after [] = Ok []
-names_after (w ∷ ws) = elim (mark w) [ With ↦ unless_fault (names_fault ws) ws | _ ↦ Err (Expected w.at wanted.SignOrEnd) ]
+names_after (w ∷ ws) = elim (mark w) [ With ↦ unless_fault (names_fault ws) ws | _ ↦ Err (Expected w.at wanted.WithOrEnd) ]
 
 abbrev pub split_at : ℕ → List Word → Read Shape
 split_at end ws = and_then (name_at end ws) (λ p. and_then (names_after p.1) (λ names. Ok (split p.0 names)))
@@ -350,18 +365,18 @@ abbrev pub have_formula : ℕ → Word → List Word → Read Shape
 have_formula end name ws = and_then (part_at wanted.Formula until.Assign end ws) (λ p. have_after end name p.0 p.1)
 
 abbrev pub have_of : ℕ → Word → List Word → Read Shape
-have_of end name [] = Err (Expected end wanted.SignOrEnd)
+have_of end name [] = Err (Expected end wanted.ColonOrAssign)
 have_of end name (w ∷ ws) = elim (mark w) [
   | Colon ↦ have_formula end name ws
   | Assign ↦ and_then (exact_at end ws) (λ e. Ok (have name None (Some e)))
-  | _ ↦ Err (Expected w.at wanted.SignOrEnd)
+  | _ ↦ Err (Expected w.at wanted.ColonOrAssign)
 ]
 
 abbrev pub cases_of : ℕ → Word → List Word → Read Shape
-cases_of end name [] = Err (Expected end wanted.SignOrEnd)
+cases_of end name [] = Err (Expected end wanted.Colon)
 cases_of end name (w ∷ ws) = elim (mark w) [
   | Colon ↦ and_then (part_at wanted.Formula until.End end ws) (λ p. Ok (by_cases name p.0))
-  | _ ↦ Err (Expected w.at wanted.SignOrEnd)
+  | _ ↦ Err (Expected w.at wanted.Colon)
 ]
 
 -- what stands behind a move's word, where so many more steps may stand, at least one

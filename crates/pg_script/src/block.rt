@@ -173,7 +173,7 @@ fn next_at<'t, 'a>(
     }
     Err(ScriptFault::Expected {
         at: token.at,
-        what: Wanted::SignOrEnd,
+        what: Wanted::EndOfItem,
     })
 }
 

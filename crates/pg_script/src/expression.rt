@@ -82,14 +82,14 @@ pub fn after_close<'t, 'a>(
     let Some((token, rest)) = split_first(tokens) else {
         return Err(ScriptFault::Expected {
             at: end,
-            what: Wanted::SignOrEnd,
+            what: Wanted::CloseParen,
         });
     };
     match mark_of(&token) {
         Mark::Close => Ok(rest),
         _ => Err(ScriptFault::Expected {
             at: token.at,
-            what: Wanted::SignOrEnd,
+            what: Wanted::CloseParen,
         }),
     }
 }
@@ -107,7 +107,7 @@ pub fn expr_at<'t, 'a>(
     let Some((token, rest)) = split_first(tokens) else {
         return Err(ScriptFault::Expected {
             at: end,
-            what: Wanted::Term,
+            what: Wanted::Expression,
         });
     };
     match mark_of(&token) {
@@ -123,7 +123,7 @@ pub fn expr_at<'t, 'a>(
         }
         _ => Err(ScriptFault::Expected {
             at: token.at,
-            what: Wanted::Term,
+            what: Wanted::Expression,
         }),
     }
 }

@@ -1,7 +1,6 @@
 // What stands behind the words of moves.
 ghost use Rattle.std.specs.Prelude.{◌≡◌, map, option_map};
 ghost use Rattle.pg_base.specs.Tokens.{word};
-ghost use Rattle.pg_base.specs.declared.token.Wanted.TheVariants.{SignOrEnd};
 ghost use Rattle.pg_script.specs.declared.fault.ScriptFault.TheVariants.{Expected};
 ghost use Rattle.pg_script.specs.Lines.{end_fault, name_at, names_fault, steps_fault, deep_fault, place_at, rule_at, no_rule, rule_end, rules_at, bracketed_rules, no_term, terms_at, exact_at, intro_at, names_after, split_at, have_formula, have_of, cases_of, apply_at, rewrite_at, shape_at};
 ghost use Rattle.pg_script.specs.View.{words, part, expression, rule, shape, Reads, Passes, with_rest, same};
@@ -16,23 +15,20 @@ use pg_base::{Token, Wanted};
 use sqlite_items::Items;
 use std::alloc::Global;
 
-// A sign that goes on, or the end, stands not here.
-fn no_sign(at: u32) -> ScriptFault
-    ensures { result ≡ Expected at SignOrEnd }
+// This is expected, and something else stands here.
+fn expected(at: u32, what: Wanted) -> ScriptFault
+    ensures { result ≡ Expected at what }
 {
-    ScriptFault::Expected {
-        at,
-        what: Wanted::SignOrEnd,
-    }
+    ScriptFault::Expected { at, what }
 }
 
-/// Passes where nothing is left. Else a sign or the end was wanted at the first token.
+/// Passes where nothing is left. Else the end of the item was wanted at the first token.
 pub fn expect_end(tokens: &[Token<'_>]) -> Result<(), ScriptFault>
     ensures { Passes (end_fault (words tokens.now)) result }
 {
     match split_first(tokens) {
         None => Ok(()),
-        Some((token, _)) => Err(no_sign(token.at)),
+        Some((token, _)) => Err(expected(token.at, Wanted::EndOfItem)),
     }
 }
 
@@ -119,7 +115,7 @@ fn place_at<'a>(end: u32, tokens: &[Token<'a>]) -> Result<Option<Token<'a>>, Scr
             expect_end(rest)?;
             Ok(Some(name))
         }
-        _ => Err(no_sign(token.at)),
+        _ => Err(expected(token.at, Wanted::AtOrEnd)),
     }
 }
 
@@ -132,20 +128,18 @@ fn rule_at<'t, 'a>(
     ensures { Reads (with_rest rule) (rule_at end (words tokens.now)) result }
 {
     let Some((token, rest)) = split_first(tokens) else {
-        return Err(ScriptFault::Expected {
-            at: end,
-            what: Wanted::Term,
-        });
+        return Err(expected(end, Wanted::Rule));
     };
     match mark_of(&token) {
         Mark::LeftArrow => {
             let (expr, rest) = expr_at(alloc, end, 0, rest)?;
             Ok((RwRule { back: true, expr }, rest))
         }
-        _ => {
+        Mark::Free | Mark::Open => {
             let (expr, rest) = expr_at(alloc, end, 0, tokens)?;
             Ok((RwRule { back: false, expr }, rest))
         }
+        _ => Err(expected(token.at, Wanted::Rule)),
     }
 }
 
@@ -154,17 +148,11 @@ fn no_rule(end: u32, tokens: &[Token<'_>]) -> ScriptFault
     ensures { result ≡ no_rule end (words tokens.now) }
 {
     let Some((token, _)) = split_first(tokens) else {
-        return ScriptFault::Expected {
-            at: end,
-            what: Wanted::Term,
-        };
+        return expected(end, Wanted::Rule);
     };
     match mark_of(&token) {
         Mark::Free | Mark::Open | Mark::LeftArrow => ScriptFault::TooMany { at: token.at },
-        _ => ScriptFault::Expected {
-            at: token.at,
-            what: Wanted::Term,
-        },
+        _ => expected(token.at, Wanted::Rule),
     }
 }
 
@@ -176,12 +164,12 @@ fn rule_end<'t, 'a>(
     ensures { Reads (with_rest same) (rule_end end (words tokens.now)) result }
 {
     let Some((token, rest)) = split_first(tokens) else {
-        return Err(no_sign(end));
+        return Err(expected(end, Wanted::CommaOrBracket));
     };
     match mark_of(&token) {
         Mark::Comma => Ok((true, rest)),
         Mark::CloseBracket => Ok((false, rest)),
-        _ => Err(no_sign(token.at)),
+        _ => Err(expected(token.at, Wanted::CommaOrBracket)),
     }
 }
 
@@ -218,11 +206,11 @@ fn bracketed_rules<'t, 'a>(
     ensures { Reads (with_rest (map rule)) (bracketed_rules room end (words tokens.now)) result }
 {
     let Some((token, rest)) = split_first(tokens) else {
-        return Err(no_sign(end));
+        return Err(expected(end, Wanted::OpenBracket));
     };
     match mark_of(&token) {
         Mark::OpenBracket => rules_at(alloc, room, end, rest),
-        _ => Err(no_sign(token.at)),
+        _ => Err(expected(token.at, Wanted::OpenBracket)),
     }
 }
 
@@ -231,22 +219,15 @@ fn no_term(end: u32, tokens: &[Token<'_>]) -> ScriptFault
     ensures { result ≡ no_term end (words tokens.now) }
 {
     let Some((token, _)) = split_first(tokens) else {
-        return ScriptFault::Expected {
-            at: end,
-            what: Wanted::Term,
-        };
+        return expected(end, Wanted::Term);
     };
     match mark_of(&token) {
-        Mark::Comma | Mark::Close => ScriptFault::Expected {
-            at: token.at,
-            what: Wanted::Term,
-        },
+        Mark::Comma | Mark::Close => expected(token.at, Wanted::Term),
         _ => ScriptFault::TooMany { at: token.at },
     }
 }
 
 // Terms up to the end, of which so many may stand.
-#[tactic(auto, using(crate::proofs::Turns::terms_wrong))]
 fn terms_at<'a>(
     alloc: Global,
     room: usize,
@@ -328,7 +309,7 @@ fn names_after<'a>(alloc: Global, tokens: &[Token<'a>]) -> Result<Items<Token<'a
             expect_names(rest)?;
             Ok(Items::from_slice(alloc, rest)?)
         }
-        _ => Err(no_sign(token.at)),
+        _ => Err(expected(token.at, Wanted::WithOrEnd)),
     }
 }
 
@@ -370,7 +351,7 @@ fn have_of<'a>(
     ensures { Reads shape (have_of end (word name.entry) (words tokens.now)) result }
 {
     let Some((token, rest)) = split_first(tokens) else {
-        return Err(no_sign(end));
+        return Err(expected(end, Wanted::ColonOrAssign));
     };
     match mark_of(&token) {
         Mark::Colon => have_formula(alloc, end, name, rest),
@@ -379,7 +360,7 @@ fn have_of<'a>(
             formula: None,
             expr: Some(exact_at(alloc, end, rest)?),
         }),
-        _ => Err(no_sign(token.at)),
+        _ => Err(expected(token.at, Wanted::ColonOrAssign)),
     }
 }
 
@@ -392,14 +373,14 @@ fn cases_of<'a>(
     ensures { Reads shape (cases_of end (word name.entry) (words tokens.now)) result }
 {
     let Some((token, rest)) = split_first(tokens) else {
-        return Err(no_sign(end));
+        return Err(expected(end, Wanted::Colon));
     };
     match mark_of(&token) {
         Mark::Colon => {
             let (formula, _) = piece_until(alloc, Wanted::Formula, Until::End, end, rest)?;
             Ok(Form::ByCases { name, formula })
         }
-        _ => Err(no_sign(token.at)),
+        _ => Err(expected(token.at, Wanted::Colon)),
     }
 }
 

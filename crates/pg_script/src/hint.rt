@@ -1,8 +1,6 @@
 // Hints.
 ghost use Rattle.std.specs.Prelude.{◌≡◌};
 ghost use Rattle.pg_base.specs.Tokens.{word};
-ghost use Rattle.pg_base.specs.declared.token.Wanted.TheVariants.{Name as WantedName};
-ghost use Rattle.pg_script.specs.declared.fault.ScriptFault.TheVariants.{Expected};
 ghost use Rattle.pg_script.specs.Lines.{option_named, value_named, given, with_option, option_of, value_of, option_at, value_at, after_assign, flag_at, maybe_flag, flags_at, is_given, text_at, hint_at};
 ghost use Rattle.pg_script.specs.View.{words, remark, Reads, with_rest, rest_words, same};
 
@@ -96,16 +94,6 @@ fn value_of(token: &Token<'_>) -> Option<bool>
     }
 }
 
-// No name of the wanted kind stands here.
-fn no_name(at: u32) -> ScriptFault
-    ensures { result ≡ Expected at WantedName }
-{
-    ScriptFault::Expected {
-        at,
-        what: Wanted::Name,
-    }
-}
-
 fn option_at<'t, 'a>(
     flags: &Flags,
     end: u32,
@@ -114,11 +102,17 @@ fn option_at<'t, 'a>(
     ensures { Reads (with_rest same) (option_at flags.now end (words tokens.now)) result }
 {
     let Some((token, rest)) = split_first(tokens) else {
-        return Err(no_name(end));
+        return Err(ScriptFault::Expected {
+            at: end,
+            what: Wanted::HintOption,
+        });
     };
     match option_of(flags, &token) {
         Some(option) => Ok((option, rest)),
-        None => Err(no_name(token.at)),
+        None => Err(ScriptFault::Expected {
+            at: token.at,
+            what: Wanted::HintOption,
+        }),
     }
 }
 
@@ -129,11 +123,17 @@ fn value_at<'t, 'a>(
     ensures { Reads (with_rest same) (value_at end (words tokens.now)) result }
 {
     let Some((token, rest)) = split_first(tokens) else {
-        return Err(no_name(end));
+        return Err(ScriptFault::Expected {
+            at: end,
+            what: Wanted::TruthValue,
+        });
     };
     match value_of(&token) {
         Some(value) => Ok((value, rest)),
-        None => Err(no_name(token.at)),
+        None => Err(ScriptFault::Expected {
+            at: token.at,
+            what: Wanted::TruthValue,
+        }),
     }
 }
 
@@ -143,14 +143,14 @@ fn after_assign<'t, 'a>(end: u32, tokens: &'t [Token<'a>]) -> Result<&'t [Token<
     let Some((token, rest)) = split_first(tokens) else {
         return Err(ScriptFault::Expected {
             at: end,
-            what: Wanted::SignOrEnd,
+            what: Wanted::Assign,
         });
     };
     match mark_of(&token) {
         Mark::Assign => Ok(rest),
         _ => Err(ScriptFault::Expected {
             at: token.at,
-            what: Wanted::SignOrEnd,
+            what: Wanted::Assign,
         }),
     }
 }

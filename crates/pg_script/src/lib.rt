@@ -12,8 +12,6 @@ mod laws;
 mod mark;
 mod script;
 mod span;
-#[cfg(test)]
-mod tests;
 
 pub use fault::ScriptFault;
 pub use item::{Expr, Form, HintItem, Item, MoveItem, Piece, RwRule, Script};

@@ -1,11 +1,11 @@
 // Parts of a move: tokens whose parentheses match.
 ghost use Rattle.std.specs.Prelude.{◌≡◌, ◌≤◌, ◌<◌, ◌+◌, length, drop, IfOk, IsFalse};
-ghost use Rattle.pg_script.specs.Lines.{stops, may_end, length_until, part_of, part_at};
+ghost use Rattle.pg_script.specs.Lines.{stops, may_end, past_part, closes_first, length_until, part_of, part_at};
 ghost use Rattle.pg_script.specs.View.{words, part, Reads, with_rest};
 
 use crate::fault::ScriptFault;
 use crate::item::Piece;
-use crate::mark::{Mark, mark_of, place};
+use crate::mark::{Mark, mark_of, place, split_first};
 use pg_base::{Token, Wanted};
 use sqlite_items::Items;
 use std::alloc::{AllocError, Global};
@@ -41,6 +41,28 @@ fn may_end(until: Until) -> bool
     !matches!(until, Until::Close)
 }
 
+// What ends a part that has a token.
+fn past_part(until: Until) -> Wanted
+    ensures { result ≡ past_part until }
+{
+    match until {
+        Until::Close => Wanted::CloseParen,
+        Until::Comma => Wanted::CommaOrEnd,
+        Until::Assign => Wanted::AssignOrEnd,
+        Until::End => Wanted::EndOfItem,
+    }
+}
+
+// Whether a closing parenthesis is the first token.
+fn closes_first(tokens: &[Token<'_>]) -> bool
+    ensures { result ≡ closes_first (words tokens.now) }
+{
+    match split_first(tokens) {
+        Some((token, _)) => matches!(mark_of(&token), Mark::Close),
+        None => false,
+    }
+}
+
 /// How many tokens go before the one that stops, within `base` open parentheses.
 #[tactic(auto, using(crate::proofs::Lists::more_more, crate::proofs::Lists::more_none))]
 pub fn length_until(
@@ -67,7 +89,7 @@ pub fn length_until(
             Mark::Close if depth == base => {
                 return Err(ScriptFault::Expected {
                     at,
-                    what: Wanted::SignOrEnd,
+                    what: past_part(until),
                 });
             }
             Mark::Close => depth -= 1,
@@ -79,7 +101,7 @@ pub fn length_until(
     } else {
         Err(ScriptFault::Expected {
             at: end,
-            what: Wanted::SignOrEnd,
+            what: Wanted::CloseParen,
         })
     }
 }
@@ -112,6 +134,12 @@ pub fn piece_until<'t, 'a>(
 ) -> Result<(Piece<'a>, &'t [Token<'a>]), ScriptFault>
     ensures { Reads (with_rest part) (part_at what until end (words tokens.now)) result }
 {
+    if closes_first(tokens) {
+        return Err(ScriptFault::Expected {
+            at: place(tokens, end),
+            what,
+        });
+    }
     let count = length_until(until, end, 0, tokens)?;
     if count == 0 {
         return Err(ScriptFault::Expected {

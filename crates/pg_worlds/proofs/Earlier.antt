@@ -6,7 +6,7 @@ use Rattle.std.proofs.lemmas.List.{get_or_append_left, get_or-append_right, get_
 use Rattle.pg_worlds.specs.Flags.{has}
 use Rattle.pg_worlds.specs.Worlds.{Worlds, needs_of, world_count, IsGraph, IsWorldOrder}
 use Rattle.pg_worlds.specs.Course.{Level, no_level, Plan, IsPlan, Needs, IsBefore, world_of}
-use Rattle.pg_worlds.proofs.Standing.{has_place}
+use Rattle.pg_worlds.proofs.Placing.{has_place}
 use Rattle.pg_worlds.proofs.Reached.{apart, in_range}
 
 -- where each of a list stands some times in a row, a later place comes from a later one or the same

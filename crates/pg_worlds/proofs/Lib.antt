@@ -1,11 +1,12 @@
 pub mod Earlier
 pub mod Flagged
 pub mod Games
+pub mod Least
 pub mod OneOrder
 pub mod Places
+pub mod Placing
 pub mod Plans
 pub mod Reached
 pub mod Rounds
-pub mod Standing
 pub mod Waiting
 pub mod Won

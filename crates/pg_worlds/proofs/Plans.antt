@@ -1,17 +1,12 @@
 -- When levels are those of worlds in their order.
-use Rattle.std.proofs.Common.{◌≡◌, ℕ, ◌^◌, ◌<◌, ◌≤◌, List, length, map, replicate, ap, sym, ◌∙◌, arith}
-use Rattle.std.specs.Prelude.{flat_map, slice_index}
+use Rattle.std.proofs.Common.{◌≡◌, ℕ, ◌^◌, ◌<◌, ◌≤◌, List, length, map, ap, sym, ◌∙◌, arith}
 use Rattle.std.proofs.lemmas.List.{length-map}
 use Rattle.pg_worlds.specs.declared.course.LevelItems.{LevelItems}
-use Rattle.pg_worlds.specs.Worlds.{Worlds, IsGraph, IsWorldOrder}
+use Rattle.pg_worlds.specs.Worlds.{Worlds, world_of_each, IsGraph, IsWorldOrder}
 use Rattle.pg_worlds.specs.Course.{IsPlan}
 use Rattle.pg_worlds.specs.View.{level_of, plan_of}
 use Rattle.pg_worlds.proofs.Games.{worlds_of_levels}
 use Rattle.pg_worlds.proofs.OneOrder.{one_order}
-
--- the world of each level, in an order of worlds
-abbrev pub world_of_each : Worlds → List ℕ → List ℕ
-world_of_each g order = flat_map (λ w. replicate (slice_index g.levels w) w) order
 
 pub plan_from : (g : Worlds) (order : List ℕ) (items : List LevelItems) → IsGraph g → IsWorldOrder g order
     → map (λ (i : LevelItems). i.world) items ≡ world_of_each g order → length items ≤ 2 ^ 16 → IsPlan (plan_of g order items)

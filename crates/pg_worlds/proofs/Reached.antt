@@ -7,7 +7,7 @@ use Rattle.std.proofs.lemmas.List.{get_or-take, length-take-le}
 use Rattle.pg_worlds.specs.Flags.{has}
 use Rattle.pg_worlds.specs.Worlds.{Worlds, needs_of, world_count, IsGraph, IsWorldOrder}
 use Rattle.pg_worlds.specs.Course.{Needs}
-use Rattle.pg_worlds.proofs.Standing.{has_place, has_at, behind_needs}
+use Rattle.pg_worlds.proofs.Placing.{has_place, has_at, behind_needs}
 
 -- a test that each of a list passes is passed by one of them
 pub all_has : (xs : List ℕ) (test : ℕ → Bool) → list_all test xs ≡ true → (x : ℕ) → has xs x ≡ true → test x ≡ true

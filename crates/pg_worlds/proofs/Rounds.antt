@@ -1,13 +1,13 @@
--- The walk along needs that can't stand, and the loop at its end.
+-- The walk along needs that can't be placed, and the loop at its end.
 use Rattle.std.proofs.Common.{◌≡◌, ◌≢◌, ℕ, ◌+◌, ◌-◌, ◌<◌, Bool, false, not, List, [], ◌∷◌, ◌++◌, length, take, drop, refl, sym, ap, ◌∙◌, subst, inl, inr, arith, Some}
 use Rattle.std.specs.Prelude.{find, slice_index, EachIndex}
 use Rattle.std.proofs.lemmas.Bool.{cases_lt, false≢true}
 use Rattle.std.proofs.lemmas.List.{get_or_append_left, get_or-append_right, get_or_push, get_or-drop, length_push, length-drop, take-append-drop}
 use Rattle.pg_worlds.specs.Flags.{has}
 use Rattle.pg_worlds.specs.Worlds.{Worlds, needs_of, IsLoopFrom}
-use Rattle.pg_worlds.proofs.Standing.{has_at}
+use Rattle.pg_worlds.proofs.Placing.{has_at}
 
--- the worlds met so far, each with its first need that can't stand behind it, the last one with the world at hand
+-- the worlds met so far, each with its first need that can't be placed behind it, the last one with the world at hand
 pub record IsWalk (g : Worlds) (can : ℕ → Bool) (start : ℕ) (ws : List ℕ) (x : ℕ) : Type 0 where
   pub starts : slice_index (ws ++ x ∷ []) 0 ≡ start
   pub follows : EachIndex ws (λ i. find (λ v. not (can v)) (needs_of g (slice_index ws i)) ≡ Some (slice_index (ws ++ x ∷ []) (i + 1)))

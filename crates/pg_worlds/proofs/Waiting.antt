@@ -8,14 +8,14 @@ use Rattle.std.proofs.lemmas.List.Folds.{list_any_at}
 use Rattle.pg_worlds.specs.Flags.{has, flag}
 use Rattle.pg_worlds.specs.Worlds.{Worlds, needs_of, world_count, IsGraph, IsWorldOrder}
 use Rattle.pg_worlds.specs.Course.{Plan, Needs, IsBefore, IsOpen, HasUnwon, IsWaiting, world_of}
-use Rattle.pg_worlds.proofs.Standing.{has_place}
+use Rattle.pg_worlds.proofs.Placing.{has_place}
 use Rattle.pg_worlds.proofs.Flagged.{flag-set}
 use Rattle.pg_worlds.proofs.Reached.{apart, in_range}
 
 -- ---- tests over a list
 
 -- a test that some of a list passes is passed by one of them
-any_gives : (xs : List ℕ) (test : ℕ → Bool) → list_any test xs ≡ true → (x : ℕ) × (has xs x ≡ true) × (test x ≡ true)
+pub any_gives : (xs : List ℕ) (test : ℕ → Bool) → list_any test xs ≡ true → (x : ℕ) × (has xs x ≡ true) × (test x ≡ true)
 any_gives [] test e = absurd (false≢true e)
 any_gives (y ∷ ys) test e =
     elim (or_cases (test y) (list_any test ys) e) [
@@ -24,13 +24,13 @@ any_gives (y ∷ ys) test e =
     ]
 
 -- what one of a list passes some of it passes
-any_has : (xs : List ℕ) (test : ℕ → Bool) (x : ℕ) → has xs x ≡ true → test x ≡ true → list_any test xs ≡ true
+pub any_has : (xs : List ℕ) (test : ℕ → Bool) (x : ℕ) → has xs x ≡ true → test x ≡ true → list_any test xs ≡ true
 any_has xs test x e here = let r = has_place xs x e in list_any_at test xs r.0 0 r.1 (ap test r.2 ∙ here)
 
 -- ---- worlds that wait
 
 -- what a needed world needs is needed
-needs_on : (g : Worlds) (a b c : ℕ) → Needs g a b → Needs g b c → Needs g a c
+pub needs_on : (g : Worlds) (a b c : ℕ) → Needs g a b → Needs g b c → Needs g a c
 needs_on g a b c first (Needs.directly _ e) = Needs.through b c first e
 needs_on g a b c first (Needs.through d _ n e) = Needs.through d c (needs_on g a b d first n) e
 
@@ -94,7 +94,7 @@ seen_more g order unwon flags at w ordered l room world hit so_far =
     }
 
 -- a world that needs another is a world
-needs_below : (g : Worlds) (w b : ℕ) → Needs g w b → w < world_count g
+pub needs_below : (g : Worlds) (w b : ℕ) → Needs g w b → w < world_count g
 needs_below g w b (Needs.directly _ e) =
     elim (cases_lt w (world_count g)) [ inl l ↦ l | inr past ↦ absurd (false≢true (ap (λ xs. has xs b) (sym (get_or_past g.needs w [] past)) ∙ e)) ]
 needs_below g w b (Needs.through c _ n e) = needs_below g w c n

@@ -1,8 +1,9 @@
 -- The levels of a game in their order, and which of them stand before a level.
-use Rattle.std.specs.Prelude.{◌≡◌, ◌↔◌, ◌⊎◌, ℕ, ◌<◌, ◌≤◌, ◌^◌, Bool, false, List, [], length, map, replicate, Option, None, IsTrue, slice_index, slice_index_or, flat_map}
+use Rattle.std.specs.Prelude.{◌≡◌, ◌↔◌, ◌⊎◌, ℕ, zero, suc, ◌+◌, ◌<◌, ◌≤◌, ◌^◌, ◌==◌, nat_lt, Bool, false, ◌&&◌, ◌||◌, List, [], ◌∷◌, length, map, Option, None, IsTrue, slice_index_or}
+use Rattle.std.specs.List.{list_any}
 use Rattle.pg_worlds.specs.declared.tactic_name.TacticName.{TacticName}
 use Rattle.pg_worlds.specs.Flags.{has, flag}
-use Rattle.pg_worlds.specs.Worlds.{Worlds, needs_of, IsGraph, IsWorldOrder}
+use Rattle.pg_worlds.specs.Worlds.{Worlds, needs_of, world_of_each, IsGraph, IsWorldOrder}
 
 -- what a level says of its inventory; `own` is the number of its own statement
 pub record Level : Type 0 where
@@ -42,11 +43,11 @@ level_at p k = slice_index_or p.levels k no_level
 abbrev pub world_of : Plan → ℕ → ℕ
 world_of p k = (level_at p k).world
 
--- the worlds stand in an order of the graph, each with its levels one after the other, and each level has a number of 16 bits
+-- the worlds come in an order of the graph, each with its levels one after the other, and each level has a number of 16 bits
 pub record IsPlan (p : Plan) : Type 0 where
   pub graph : IsGraph p.worlds
   pub ordered : IsWorldOrder p.worlds p.order
-  pub by_world : map (λ (l : Level). l.world) p.levels ≡ flat_map (λ w. replicate (slice_index p.worlds.levels w) w) p.order
+  pub by_world : map (λ (l : Level). l.world) p.levels ≡ world_of_each p.worlds p.order
   pub numbered : length p.levels ≤ 2 ^ 16
 
 -- a world needs another directly, or through a world that it needs
@@ -71,6 +72,24 @@ IsFirstMissing p won level k = IsBefore p level k × (flag won k ≡ false) × (
 -- just the levels before it are won
 abbrev pub IsLeastWon : Plan → ℕ → List Bool → Type 0
 IsLeastWon p level won = (length won ≡ length p.levels) × ((k : ℕ) → IsTrue (flag won k) ↔ IsBefore p level k)
+
+-- whether at most n needs, each of the world that the one before leads to, lead from world a to world b
+abbrev pub leads_to : Worlds → (n a b : ℕ) → Bool
+leads_to g zero a b = false
+leads_to g (suc n) a b = list_any (λ c. (c == b) || leads_to g n c b) (needs_of g a)
+
+-- whether level k stands before; to a world that is needed lead no more needs than the order has worlds
+abbrev pub is_before : Plan → (level k : ℕ) → Bool
+is_before p level k = leads_to p.worlds (length p.order) (world_of p level) (world_of p k) || ((world_of p k == world_of p level) && nat_lt k level)
+
+-- what the test says of n numbers from k on
+abbrev pub flags_from : (ℕ → Bool) → (k n : ℕ) → List Bool
+flags_from test k zero = []
+flags_from test k (suc n) = test k ∷ flags_from test (k + 1) n
+
+-- the flags of the levels, of which just those before it are won
+abbrev pub least_won : Plan → ℕ → List Bool
+least_won p level = flags_from (is_before p level) 0 (length p.levels)
 
 -- a level of the world, before place n, isn't won
 abbrev pub HasUnwon : Plan → List Bool → ℕ → ℕ → Type 0

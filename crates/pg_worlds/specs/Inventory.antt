@@ -4,7 +4,7 @@ use Rattle.std.specs.List.{list_any}
 use Rattle.pg_worlds.specs.declared.tactic_name.TacticName.{TacticName}
 use Rattle.pg_worlds.specs.Flags.{has, flag}
 use Rattle.pg_worlds.specs.Moves.{place_of}
-use Rattle.pg_worlds.specs.Course.{Level, Plan, level_at}
+use Rattle.pg_worlds.specs.Course.{Level, Plan, least_won, level_at}
 
 -- a set of moves and a set of theorem numbers, each by its test
 pub record Inventory : Type 0 where
@@ -68,6 +68,11 @@ is_unsampled p k = list_any (λ (l : Level). not l.sampled && (l.own == k)) p.le
 -- the inventory without the statements of levels that have no sample
 abbrev pub sampled_only : Plan → Inventory → Inventory
 sampled_only p a = record { tactic = a.tactic; theorem = λ k. a.theorem k && not (is_unsampled p k) }
+
+-- The least that any player has in a level who may play it: what is available where just those levels are won that have
+-- to be, without the statements of levels that have no sample.
+abbrev pub least_available : Plan → ℕ → Inventory
+least_available p level = sampled_only p (available p (least_won p level) level)
 
 -- an inventory as it is kept: a flag for each move by its place, and one for each theorem by its number
 pub record Held : Type 0 where

@@ -1,5 +1,5 @@
 -- The moves, their words and their order.
-use Rattle.std.specs.Prelude.{◌≡◌, ℕ, List, codes}
+use Rattle.std.specs.Prelude.{◌≡◌, ℕ, List, [], ◌∷◌, codes}
 use Rattle.pg_worlds.specs.declared.tactic_name.TacticName.{TacticName}
 use Rattle.pg_worlds.specs.declared.tactic_name.TacticName.TheVariants.{Rfl, Rw, Induction, Intro, Exact, Apply, Cases, Left, Right, Constructor, Use, Symm, Exfalso, Have, Revert, ByCases}
 
@@ -22,7 +22,28 @@ word_of Have = codes "have"
 word_of Revert = codes "revert"
 word_of ByCases = codes "by_cases"
 
--- the place of a move in the order of moves
+-- the words of the moves, in the order in which inventories list them
+abbrev pub words : List (List ℕ)
+words =
+    codes "rfl"
+    ∷ codes "rw"
+    ∷ codes "induction"
+    ∷ codes "intro"
+    ∷ codes "exact"
+    ∷ codes "apply"
+    ∷ codes "cases"
+    ∷ codes "left"
+    ∷ codes "right"
+    ∷ codes "constructor"
+    ∷ codes "use"
+    ∷ codes "symm"
+    ∷ codes "exfalso"
+    ∷ codes "have"
+    ∷ codes "revert"
+    ∷ codes "by_cases"
+    ∷ []
+
+-- the place of a move in this order
 abbrev pub place_of : TacticName → ℕ
 place_of Rfl = 0
 place_of Rw = 1

@@ -60,7 +60,7 @@ impl Model for Course {
 }
 
 impl Course {
-    ghost use Rattle.pg_worlds.specs.Course.{level_at, world_of, Needs, IsBefore, IsFirstMissing, IsLeastWon, IsOpen, IsPlan, AreOpen, HasUnwon, IsWaiting};
+    ghost use Rattle.pg_worlds.specs.Course.{level_at, least_won, world_of, Needs, IsBefore, IsFirstMissing, IsLeastWon, IsOpen, IsPlan, AreOpen, HasUnwon, IsWaiting};
     ghost use Rattle.pg_worlds.specs.View.{level_of, plan_of};
 
     /// The course of these worlds, in the order of the graph, and of these levels in the order of
@@ -90,15 +90,14 @@ impl Course {
         ensures err { IfErr result (IsOrderFault graph) }
     {
         let order = graph.order(alloc)?;
-        let worlds = graph.world_of_each(alloc, order.as_slice())?;
-        if items.len() > MOST_LEVELS || !have_worlds(items.as_slice(), worlds.as_slice()) {
+        if items.len() > MOST_LEVELS {
             return Ok(None);
         }
-        Ok(Some(Course {
-            graph,
-            order,
-            items,
-        }))
+        let worlds = graph.world_of_each(alloc, order.as_slice())?;
+        if !have_worlds(items.as_slice(), worlds.as_slice()) {
+            return Ok(None);
+        }
+        Ok(Some(Course::new(graph, order, items)))
     }
 
     /// How many levels there are.
@@ -109,52 +108,9 @@ impl Course {
         self.items.len()
     }
 
-    // What the level at this place says.
-    pub(crate) fn items(&self, at: usize) -> &LevelItems
-        requires { at < length self.now.levels }
-        ensures { level_of result.now ≡ level_at self.now at }
-    {
-        &self.items[at]
-    }
-
-    // The world of the level at this place.
-    fn world(&self, at: usize) -> u16
-        requires { at < length self.now.levels }
-        ensures world { result ≡ world_of self.now at }
-        ensures below { result < 64 }
-    {
-        self.items[at].world
-    }
-
-    // Which worlds this world needs, directly or through others.
-    fn needed(&self, world: u16) -> [bool; MOST_WORLDS]
-        ensures needed { (k : ℕ) → IsTrue (flag result k) ↔ Needs self.now.worlds world k }
-        ensures plan { IsPlan self.now }
-    {
-        let mut needed = no_worlds();
-        self.graph.add_needs(world, &mut needed);
-        for at in (0..self.order.len()).rev() {
-            let behind = self.order[at];
-            if has_flag(&needed, behind as usize) {
-                self.graph.add_needs(behind, &mut needed);
-            }
-        }
-        needed
-    }
-
-    // Whether the level at place `at` stands before the one at place `level`, whose world needs `needed`.
-    fn is_before(&self, needed: &[bool], level: usize, at: usize) -> bool
-        requires needed { (k : ℕ) → IsTrue (flag needed.now k) ↔ Needs self.now.worlds (world_of self.now level) k }
-        requires level { level < length self.now.levels }
-        requires at { at < length self.now.levels }
-        ensures { IsTrue result ↔ IsBefore self.now level at }
-    {
-        let world = self.items(at).world;
-        has_flag(needed, world as usize) || (world == self.items(level).world && at < level)
-    }
-
     /// Whether the level is open: all levels of all worlds that its world needs, directly or through others, and the
-    /// earlier levels of its world are won. `won` has one flag for each level. Takes no memory.
+    /// earlier levels of its world are won. `won` has one flag for each level. Takes no memory. The rule stands in
+    /// docs/GAME-TEXT.md, "Worlds, and what is open".
     pub fn is_open(&self, won: &[bool], level: LevelId) -> bool
         requires won { length won.now ≡ length self.now.levels }
         requires level { level.0 < length self.now.levels }
@@ -180,10 +136,39 @@ impl Course {
         None
     }
 
-    /// One flag for each level: just those levels are won that have to be, before this one is open.
+    /// Whether the level at place `at` stands before the one at place `level`, whose world needs `needed`.
+    fn is_before(&self, needed: &[bool], level: usize, at: usize) -> bool
+        requires needed { (k : ℕ) → IsTrue (flag needed.now k) ↔ Needs self.now.worlds (world_of self.now level) k }
+        requires level { level < length self.now.levels }
+        requires at { at < length self.now.levels }
+        ensures { IsTrue result ↔ IsBefore self.now level at }
+    {
+        let world = self.items(at).world;
+        has_flag(needed, world as usize) || (world == self.items(level).world && at < level)
+    }
+
+    /// Which worlds this world needs, directly or through others.
+    fn needed(&self, world: u16) -> [bool; MOST_WORLDS]
+        ensures needed { (k : ℕ) → IsTrue (flag result k) ↔ Needs self.now.worlds world k }
+        ensures plan { IsPlan self.now }
+    {
+        let mut needed = no_worlds();
+        self.graph.add_needs(world, &mut needed);
+        for at in (0..self.order.len()).rev() {
+            let behind = self.order[at];
+            if has_flag(&needed, behind as usize) {
+                self.graph.add_needs(behind, &mut needed);
+            }
+        }
+        needed
+    }
+
+    /// One flag for each level: just those levels are won that have to be, before this one is open. `AllocError` comes
+    /// where there is no memory.
     pub fn least_won(&self, alloc: Global, level: LevelId) -> Result<Vec<bool>, AllocError>
         requires { level.0 < length self.now.levels }
         ensures least { IfOk result (λ won. IsLeastWon self.now level.0 won.items) }
+        ensures flags { IfOk result (λ won. won.items ≡ least_won self.now level.0) }
         ensures earlier { IfOk result (λ won. (k : ℕ) → IsTrue (flag won.items k) → k < level.0) }
     {
         let needed = self.needed(self.items(level.0 as usize).world);
@@ -194,31 +179,22 @@ impl Course {
         Ok(won)
     }
 
-    // Sets the flag of the world of the level at this place, if the level isn't won.
-    fn mark_unwon(&self, won: &[bool], at: usize, worlds: &mut [bool; MOST_WORLDS])
-        requires won { length won.now ≡ length self.now.levels }
-        requires at { at < length self.now.levels }
-        ensures { (w : ℕ) → IsTrue (flag worlds.new w)
-            ↔ (IsTrue (flag worlds.old w) ⊎ ((world_of self.now at ≡ w) × (flag won.now at ≡ false))) }
-    {
-        if !won[at] {
-            worlds[self.world(at) as usize] = true;
-        }
-    }
-
-    // The worlds with a level that isn't won.
-    fn unwon_worlds(&self, won: &[bool]) -> [bool; MOST_WORLDS]
+    /// For each level, whether it is open: the answers of `is_open`, found in two passes over the
+    /// levels. `won` has one flag for each level. `AllocError` comes where there is no memory.
+    pub fn open_levels(&self, alloc: Global, won: &[bool]) -> Result<Vec<bool>, AllocError>
         requires { length won.now ≡ length self.now.levels }
-        ensures { (w : ℕ) → IsTrue (flag result w) ↔ HasUnwon self.now won.now (length self.now.levels) w }
+        ensures { IfOk result (λ flags. AreOpen self.now won.now flags.items) }
     {
-        let mut unwon = no_worlds();
+        let mut closed = self.waiting_worlds(won);
+        let mut flags = Vec::with_capacity(alloc, self.count())?;
         for at in 0..self.count() {
-            self.mark_unwon(won, at, &mut unwon);
+            flags.push(!closed[self.world(at) as usize])?;
+            self.mark_unwon(won, at, &mut closed);
         }
-        unwon
+        Ok(flags)
     }
 
-    // The worlds that need, directly or through others, a world with a level that isn't won.
+    /// The worlds that need, directly or through others, a world with a level that isn't won.
     fn waiting_worlds(&self, won: &[bool]) -> [bool; MOST_WORLDS]
         requires { length won.now ≡ length self.now.levels }
         ensures { (w : ℕ) → IsTrue (flag result w) ↔ IsWaiting self.now won.now w }
@@ -235,23 +211,49 @@ impl Course {
         waiting
     }
 
-    /// For each level, whether it is open: the answers of `is_open`, found in two passes over the
-    /// levels. `won` has one flag for each level.
-    pub fn open_levels(&self, alloc: Global, won: &[bool]) -> Result<Vec<bool>, AllocError>
+    /// The worlds with a level that isn't won.
+    fn unwon_worlds(&self, won: &[bool]) -> [bool; MOST_WORLDS]
         requires { length won.now ≡ length self.now.levels }
-        ensures { IfOk result (λ flags. AreOpen self.now won.now flags.items) }
+        ensures { (w : ℕ) → IsTrue (flag result w) ↔ HasUnwon self.now won.now (length self.now.levels) w }
     {
-        let mut closed = self.waiting_worlds(won);
-        let mut flags = Vec::with_capacity(alloc, self.count())?;
+        let mut unwon = no_worlds();
         for at in 0..self.count() {
-            flags.push(!closed[self.world(at) as usize])?;
-            self.mark_unwon(won, at, &mut closed);
+            self.mark_unwon(won, at, &mut unwon);
         }
-        Ok(flags)
+        unwon
+    }
+
+    /// Sets the flag of the world of the level at this place, if the level isn't won.
+    fn mark_unwon(&self, won: &[bool], at: usize, worlds: &mut [bool; MOST_WORLDS])
+        requires won { length won.now ≡ length self.now.levels }
+        requires at { at < length self.now.levels }
+        ensures { (w : ℕ) → IsTrue (flag worlds.new w)
+            ↔ (IsTrue (flag worlds.old w) ⊎ ((world_of self.now at ≡ w) × (flag won.now at ≡ false))) }
+    {
+        if !won[at] {
+            worlds[self.world(at) as usize] = true;
+        }
+    }
+
+    /// What the level at this place says.
+    pub(crate) fn items(&self, at: usize) -> &LevelItems
+        requires { at < length self.now.levels }
+        ensures { level_of result.now ≡ level_at self.now at }
+    {
+        &self.items[at]
+    }
+
+    /// The world of the level at this place.
+    fn world(&self, at: usize) -> u16
+        requires { at < length self.now.levels }
+        ensures world { result ≡ world_of self.now at }
+        ensures below { result < 64 }
+    {
+        self.items[at].world
     }
 }
 
-// Whether these levels are of these worlds, one by one.
+/// Whether these levels are of these worlds, one by one.
 fn have_worlds(items: &[LevelItems], worlds: &[u16]) -> bool
     ensures { IsTrue result ↔ (map (λ (i : LevelItems). i.world) items.now ≡ worlds.now) }
 {

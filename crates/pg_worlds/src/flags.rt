@@ -6,7 +6,7 @@ ghost use Rattle.pg_worlds.specs.Flags.{flag};
 use crate::tactic_name::TacticName;
 use std::alloc::AllocError;
 
-// What has a number by which it is kept in a set.
+/// What has a number by which it is kept in a set.
 pub(crate) trait Numbered: Copy {
     ghost number_of: { Self → ℕ };
 
@@ -40,28 +40,28 @@ impl Numbered for TacticName {
     }
 }
 
-// Whether the flag of this number stands.
+/// Whether the flag of this number stands.
 pub(crate) fn has_flag(flags: &[bool], number: usize) -> bool
     ensures { result ≡ flag flags.now number }
 {
     number < flags.len() && flags[number]
 }
 
-// Whether the flag of each of these worlds stands.
+/// Whether the flag of each of these worlds stands.
 pub(crate) fn has_all_flags(flags: &[bool], worlds: &[u16]) -> bool
     ensures { result ≡ list_all (flag flags.now) worlds.now }
 {
     worlds.iter().all(|w| has_flag(flags, *w as usize))
 }
 
-// Whether the flag of one of these worlds stands.
+/// Whether the flag of one of these worlds stands.
 pub(crate) fn has_any_flag(flags: &[bool], worlds: &[u16]) -> bool
     ensures { result ≡ list_any (flag flags.now) worlds.now }
 {
     worlds.iter().any(|w| has_flag(flags, *w as usize))
 }
 
-// The first of these worlds whose flag doesn't stand.
+/// The first of these worlds whose flag doesn't stand.
 pub(crate) fn first_without_flag(flags: &[bool], worlds: &[u16]) -> Option<u16>
     ensures { result ≡ find (λ w. not (flag flags.now w)) worlds.now }
 {
@@ -71,7 +71,7 @@ pub(crate) fn first_without_flag(flags: &[bool], worlds: &[u16]) -> Option<u16>
         .find(|w| !has_flag(flags, *w as usize))
 }
 
-// Sets the flag of each of these.
+/// Sets the flag of each of these.
 pub(crate) fn add_all<T: Numbered>(flags: &mut [bool], names: &[T])
     requires { (k : ℕ) → list_any (λ x. T.number_of x == k) names.now ≡ true → k < length flags.old }
     ensures { (k : ℕ) → flag flags.new k ≡ (flag flags.old k || list_any (λ x. T.number_of x == k) names.now) }
@@ -81,7 +81,7 @@ pub(crate) fn add_all<T: Numbered>(flags: &mut [bool], names: &[T])
     }
 }
 
-// Takes the flag of each of these away.
+/// Takes the flag of each of these away.
 pub(crate) fn remove_all<T: Numbered>(flags: &mut [bool], names: &[T])
     ensures { (k : ℕ) → flag flags.new k ≡ (flag flags.old k && not (list_any (λ x. T.number_of x == k) names.now)) }
 {
@@ -93,7 +93,7 @@ pub(crate) fn remove_all<T: Numbered>(flags: &mut [bool], names: &[T])
     }
 }
 
-// Puts into `kept`, whose flags are down, the flags that are named.
+/// Puts into `kept`, whose flags are down, the flags that are named.
 pub(crate) fn keep_named<T: Numbered>(flags: &[bool], names: &[T], kept: &mut [bool])
     requires room { length kept.old ≡ length flags.now }
     requires down { (k : ℕ) → flag kept.old k ≡ false }
@@ -107,7 +107,7 @@ pub(crate) fn keep_named<T: Numbered>(flags: &[bool], names: &[T], kept: &mut [b
     }
 }
 
-// Makes room for the flags of these, which stay down.
+/// Makes room for the flags of these, which stay down.
 pub(crate) fn make_room<T: Numbered>(flags: &mut Vec<bool>, names: &[T]) -> Result<(), AllocError>
     ensures same { (k : ℕ) → flag flags.new.items k ≡ flag flags.old.items k }
     ensures longer { vec_len flags.old ≤ vec_len flags.new }
@@ -119,7 +119,7 @@ pub(crate) fn make_room<T: Numbered>(flags: &mut Vec<bool>, names: &[T]) -> Resu
     Ok(())
 }
 
-// Sets the flag of each of these, for which there is room.
+/// Sets the flag of each of these, for which there is room.
 pub(crate) fn insert_all<T: Numbered>(flags: &mut Vec<bool>, names: &[T])
     requires { (k : ℕ) → list_any (λ x. T.number_of x == k) names.now ≡ true → k < vec_len flags.old }
     ensures { (k : ℕ) → flag flags.new.items k ≡ (flag flags.old.items k || list_any (λ x. T.number_of x == k) names.now) }
@@ -127,7 +127,7 @@ pub(crate) fn insert_all<T: Numbered>(flags: &mut Vec<bool>, names: &[T])
     add_all(flags.as_mut_slice(), names);
 }
 
-// Makes room for the flag of each of these, and sets it. Without memory all flags stay.
+/// Makes room for the flag of each of these, and sets it. Without memory all flags stay.
 pub(crate) fn insert_growing<T: Numbered>(
     flags: &mut Vec<bool>,
     names: &[T],
@@ -141,14 +141,14 @@ pub(crate) fn insert_growing<T: Numbered>(
     Ok(())
 }
 
-// Takes the flag of each of these away.
+/// Takes the flag of each of these away.
 pub(crate) fn take_out<T: Numbered>(flags: &mut Vec<bool>, names: &[T])
     ensures { (k : ℕ) → flag flags.new.items k ≡ (flag flags.old.items k && not (list_any (λ x. T.number_of x == k) names.now)) }
 {
     remove_all(flags.as_mut_slice(), names);
 }
 
-// Makes room for the flag of this number, which stays as it is.
+/// Makes room for the flag of this number, which stays as it is.
 fn lengthen(flags: &mut Vec<bool>, number: usize) -> Result<(), AllocError>
     ensures same { (k : ℕ) → flag flags.new.items k ≡ flag flags.old.items k }
     ensures longer { vec_len flags.old ≤ vec_len flags.new }

@@ -59,7 +59,8 @@ impl Unlocked {
         })
     }
 
-    /// Adds what a won level unlocks: its `NewTactic`, its `NewTheorem` and its own statement. Without memory nothing is added.
+    /// Adds what a won level unlocks: its `NewTactic`, its `NewTheorem` and its own statement. Without memory nothing
+    /// is added. The rules stand in docs/GAME-TEXT.md, "What a player has".
     pub fn add_won(
         &mut self,
         alloc: Global,
@@ -82,7 +83,8 @@ impl Unlocked {
     }
 
     /// What the player has in this level: the unlocked together with the level's own New moves and theorems, without its
-    /// Disabled ones; where an Only command stands, only what it names; never the level's own statement.
+    /// Disabled ones; where an Only command stands, only what it names; never the level's own statement. `AllocError`
+    /// comes where there is no memory.
     pub fn available(
         &self,
         alloc: Global,
@@ -94,17 +96,6 @@ impl Unlocked {
         ensures won { IfOk result (λ a. (won : List Bool) → inventory self.now ≡ unlocked course.now won → inventory a ≡ available course.now won level.0) }
     {
         self.within(alloc, course.items(level.0 as usize))
-    }
-
-    // What the player has in a level that says this.
-    fn within(&self, alloc: Global, item: &LevelItems) -> Result<Available, AllocError>
-        ensures { IfOk result (λ a. inventory a ≡ within (level_of item.now) (inventory self.now)) }
-    {
-        let theorems = self.theorems.as_slice().to_vec(alloc)?;
-        Ok(Available {
-            tactics: moves_within(self.tactics, item),
-            theorems: theorems_within(alloc, theorems, item)?,
-        })
     }
 
     /// Whether the move is unlocked. Takes no memory.
@@ -120,22 +111,21 @@ impl Unlocked {
     {
         has_flag(&self.theorems, id as usize)
     }
+
+    /// What the player has in a level that says this.
+    fn within(&self, alloc: Global, item: &LevelItems) -> Result<Available, AllocError>
+        ensures { IfOk result (λ a. inventory a ≡ within (level_of item.now) (inventory self.now)) }
+    {
+        let theorems = self.theorems.as_slice().to_vec(alloc)?;
+        Ok(Available {
+            tactics: moves_within(self.tactics, item),
+            theorems: theorems_within(alloc, theorems, item)?,
+        })
+    }
 }
 
 impl Available {
     ghost use Rattle.pg_worlds.specs.Inventory.{inventory, sampled_only};
-
-    // Takes away the statements of levels that have no sample.
-    fn keep_sampled(&mut self, course: &Course)
-        ensures { inventory self.new ≡ sampled_only course.now (inventory self.old) }
-    {
-        for at in 0..course.count() {
-            let item = course.items(at);
-            if !item.sampled {
-                take_out(&mut self.theorems, [item.own].as_slice());
-            }
-        }
-    }
 
     /// Whether the player has the move in the level. Takes no memory.
     pub fn has_tactic(&self, name: TacticName) -> bool
@@ -150,22 +140,35 @@ impl Available {
     {
         has_flag(&self.theorems, id as usize)
     }
+
+    /// Takes away the statements of levels that have no sample.
+    fn keep_sampled(&mut self, course: &Course)
+        ensures { inventory self.new ≡ sampled_only course.now (inventory self.old) }
+    {
+        for at in 0..course.count() {
+            let item = course.items(at);
+            if !item.sampled {
+                take_out(&mut self.theorems, [item.own].as_slice());
+            }
+        }
+    }
 }
 
 ghost use Rattle.pg_worlds.specs.View.{level_of};
-ghost use Rattle.pg_worlds.specs.Inventory.{available, has_move, inventory, is_allowed, sampled_only, tactic_within, theorem_within, unlocked};
+ghost use Rattle.pg_worlds.specs.Inventory.{available, has_move, inventory, is_allowed, least_available, sampled_only, tactic_within, theorem_within, unlocked};
 ghost use Rattle.pg_worlds.specs.Course.{IsLeastWon};
 ghost use Rattle.pg_worlds.specs.declared.tactic_name.TacticName.{TacticName};
 
 /// The least that any player has in this level who may play it: what is available where just those levels are won that
-/// have to be, without the statements of levels that have no sample.
+/// have to be, without the statements of levels that have no sample. `AllocError` comes where there is no memory.
 pub fn least_available(
     alloc: Global,
     course: &Course,
     level: LevelId,
 ) -> Result<Available, AllocError>
     requires { level.0 < length course.now.levels }
-    ensures { IfOk result
+    ensures least { IfOk result (λ a. inventory a ≡ least_available course.now level.0) }
+    ensures won { IfOk result
         (λ a. (won : List Bool) × IsLeastWon course.now level.0 won × (inventory a ≡ sampled_only course.now (available course.now won level.0))) }
 {
     let won = course.least_won(alloc, level)?;
@@ -174,7 +177,7 @@ pub fn least_available(
     Ok(least)
 }
 
-// What is unlocked where just these levels are won.
+/// What is unlocked where just these levels are won.
 fn unlocked_at(alloc: Global, course: &Course, won: &[bool]) -> Result<Unlocked, AllocError>
     requires { length won.now ≡ length course.now.levels }
     ensures { IfOk result (λ u. inventory u ≡ unlocked course.now won.now) }
@@ -188,7 +191,7 @@ fn unlocked_at(alloc: Global, course: &Course, won: &[bool]) -> Result<Unlocked,
     Ok(unlocked)
 }
 
-// The moves of a level, from the unlocked ones.
+/// The moves of a level, from the unlocked ones.
 fn moves_within(unlocked: [bool; MOVES], item: &LevelItems) -> [bool; MOVES]
     ensures { (t : TacticName) → flag result (place_of t) ≡ tactic_within (level_of item.now) (λ s. flag unlocked (place_of s)) t }
 {
@@ -198,7 +201,19 @@ fn moves_within(unlocked: [bool; MOVES], item: &LevelItems) -> [bool; MOVES]
     allowed_moves(moves, &item.only_tactics)
 }
 
-// The theorems of a level, from the unlocked ones.
+/// The moves that an Only command lets through.
+fn allowed_moves(moves: [bool; MOVES], only: &Option<Vec<TacticName>>) -> [bool; MOVES]
+    ensures { (t : TacticName) → flag result (place_of t) ≡ (flag moves (place_of t) && is_allowed has_move (option_map (λ v. v.items) only.now) t) }
+{
+    let Some(named) = only else {
+        return moves;
+    };
+    let mut kept = [false; MOVES];
+    keep_named(&moves, named.as_slice(), &mut kept);
+    kept
+}
+
+/// The theorems of a level, from the unlocked ones.
 fn theorems_within(
     alloc: Global,
     unlocked: Vec<bool>,
@@ -214,19 +229,7 @@ fn theorems_within(
     Ok(allowed)
 }
 
-// The moves that an Only command lets through.
-fn allowed_moves(moves: [bool; MOVES], only: &Option<Vec<TacticName>>) -> [bool; MOVES]
-    ensures { (t : TacticName) → flag result (place_of t) ≡ (flag moves (place_of t) && is_allowed has_move (option_map (λ v. v.items) only.now) t) }
-{
-    let Some(named) = only else {
-        return moves;
-    };
-    let mut kept = [false; MOVES];
-    keep_named(&moves, named.as_slice(), &mut kept);
-    kept
-}
-
-// The theorems that an Only command lets through.
+/// The theorems that an Only command lets through.
 fn allowed_theorems(
     alloc: Global,
     theorems: Vec<bool>,

@@ -11,6 +11,3 @@ pub use course::{Course, LevelId, LevelItems};
 pub use graph::{Graph, WorldFault, world_order_law};
 pub use inventory::{Available, Unlocked, least_available};
 pub use tactic_name::TacticName;
-
-#[cfg(test)]
-mod tests;

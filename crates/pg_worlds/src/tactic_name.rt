@@ -1,6 +1,6 @@
 // The moves and their words.
-ghost use Rattle.std.specs.Prelude.{◌≡◌, ◌<◌, IfSome, Some, codes};
-ghost use Rattle.pg_worlds.specs.Moves.{place_of, word_of, WordsDiffer};
+ghost use Rattle.std.specs.Prelude.{◌≡◌, ◌<◌, IfSome, Some, map};
+ghost use Rattle.pg_worlds.specs.Moves.{place_of, word_of, words, WordsDiffer};
 
 /// A move: a proof word that a game introduces with `NewTactic`.
 #[derive(Clone, Copy, Debug, PartialEq, Eq)]
@@ -48,6 +48,7 @@ impl TacticName {
     pub fn named(text: &str) -> Option<TacticName>
         ensures word { IfSome result (λ t. word_of t ≡ text.now) }
         ensures inverse { (t : TacticName) → word_of t ≡ text.now → result ≡ Some t }
+        ensures order { map word_of TacticName.ALL ≡ words }
     {
         for t in TacticName::ALL {
             if t.word() == text {
@@ -61,6 +62,13 @@ impl TacticName {
     pub fn word(&self) -> &'static str
         ensures word { result.now ≡ word_of self.now }
         ensures differ { WordsDiffer }
+    {
+        self.text()
+    }
+
+    /// The word, move by move.
+    fn text(&self) -> &'static str
+        ensures { result.now ≡ word_of self.now }
     {
         match self {
             TacticName::Rfl => "rfl",

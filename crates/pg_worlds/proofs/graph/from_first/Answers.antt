@@ -1,5 +1,5 @@
 use Rattle.std.proofs.Common.{arith, ◌<◌}
-use Rattle.pg_worlds.proofs.Standing.{has_place}
+use Rattle.pg_worlds.proofs.Placing.{has_place}
 use Rattle.pg_worlds.proofs.graph.from_first.Goals as goal
 
 pub unreachable-requires : goal.unreachable-requires

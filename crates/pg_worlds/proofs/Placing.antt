@@ -1,4 +1,4 @@
--- What it means that no further world could stand.
+-- What it means that no further world can be placed.
 use Rattle.std.proofs.Common.{replicate, ◌≡◌, ℕ, ◌+◌, ◌<◌, Bool, true, false, not, cond, ◌&&◌, ◌||◌, eqb, List, [], ◌∷◌, ◌++◌, length, set, take, refl, sym, ap, ◌∙◌, subst, inl, inr, arith, zero, suc, Some}
 use Rattle.std.specs.Prelude.{find, slice_index, IsSome}
 use Rattle.std.specs.List.{list_all}
@@ -6,10 +6,10 @@ use Rattle.std.proofs.lemmas.Bool.{cases_lt, cases_Bool, eqb-true, eq-eqb, false
 use Rattle.std.proofs.lemmas.List.{get_or_append_left, get_or_push, take-append-le, take_at, get_or-take, length-take-le, length_push}
 use Rattle.std.proofs.lemmas.List.Folds.{list_any-append, list_any_at}
 use Rattle.pg_worlds.specs.Flags.{flag, has}
-use Rattle.pg_worlds.specs.Worlds.{Worlds, needs_of, world_count, could_stand, IsFirstBelow, IsFirstEachTime, IsBehindNeeds, CanStand, HasNoOrder}
+use Rattle.pg_worlds.specs.Worlds.{Worlds, needs_of, world_count, can_be_placed, IsFirstBelow, IsFirstEachTime, IsBehindNeeds, CanBePlaced, HasNoOrder}
 use Rattle.pg_worlds.proofs.Flagged.{flag-set}
 
--- a number that a list has stands at some place of it
+-- a number that a list has placed at some place of it
 pub has_place : (xs : List ℕ) (k : ℕ) → has xs k ≡ true → (j : ℕ) × (j < length xs) × (slice_index xs j ≡ k)
 has_place [] k e = absurd (false≢true e)
 has_place (x ∷ xs) k e =
@@ -42,9 +42,9 @@ fewer_down (false ∷ bs) (suc i) h e = let r = fewer_down bs i (omega arith) e 
 pub same_test : (s t : ℕ → Bool) → ((k : ℕ) → s k ≡ t k) → s ≡ t
 same_test s t h = λ i k. h k i
 
-pub first_each_push : (g : Worlds) (order : List ℕ) (w : ℕ) → IsFirstEachTime g order → IsFirstBelow (world_count g) (could_stand g (has order)) w → IsFirstEachTime g (order ++ w ∷ [])
+pub first_each_push : (g : Worlds) (order : List ℕ) (w : ℕ) → IsFirstEachTime g order → IsFirstBelow (world_count g) (can_be_placed g (has order)) w → IsFirstEachTime g (order ++ w ∷ [])
 first_each_push g order w old new i h =
-    let P : List ℕ → ℕ → Type 0 = λ before v. IsFirstBelow (world_count g) (could_stand g (has before)) v in
+    let P : List ℕ → ℕ → Type 0 = λ before v. IsFirstBelow (world_count g) (can_be_placed g (has before)) v in
     elim (cases_lt i (length order)) [
       | inl l ↦ subst (λ before. P before (slice_index (order ++ w ∷ []) i)) (sym (take-append-le i order (w ∷ []) (omega arith))) (subst (P (take i order)) (sym (get_or_append_left order (w ∷ []) 0 i l)) (old i l))
       | inr l ↦
@@ -68,42 +68,42 @@ pub behind_needs : (g : Worlds) (order : List ℕ) → IsFirstEachTime g order �
 behind_needs g order first i h =
     let f = first i h in (f.0, (and_parts (not (has (take i order) (slice_index order i))) (list_all (has (take i order)) (needs_of g (slice_index order i))) f.1).1)
 
--- ---- where no further world could stand, just those that stand can
+-- ---- where no further world can be placed, just those that are placed can be
 
-module _ (g : Worlds) (stands : ℕ → Bool) (stuck : (w : ℕ) → w < world_count g → could_stand g stands w ≡ false) where
-  among : (ws : List ℕ) → IsBehindNeeds g ws → (m i : ℕ) → i < m → i < length ws → stands (slice_index ws i) ≡ true
+module _ (g : Worlds) (placed : ℕ → Bool) (stuck : (w : ℕ) → w < world_count g → can_be_placed g placed w ≡ false) where
+  among : (ws : List ℕ) → IsBehindNeeds g ws → (m i : ℕ) → i < m → i < length ws → placed (slice_index ws i) ≡ true
   among ws behind zero i l h = absurd (omega arith)
   among ws behind (suc m) i l h =
       let w : ℕ = slice_index ws i in
-      let earlier : (v : ℕ) → has (take i ws) v ≡ true → stands v ≡ true =
+      let earlier : (v : ℕ) → has (take i ws) v ≡ true → placed v ≡ true =
       λ v e.
       let r = has_place (take i ws) v e in
       let j_below : r.0 < i = omega (arith, length-take-le i ws (omega arith)) in
-      subst (λ u. stands u ≡ true) (sym (get_or-take i ws r.0 0 j_below) ∙ r.2) (among ws behind m r.0 (omega arith) (omega arith))
+      subst (λ u. placed u ≡ true) (sym (get_or-take i ws r.0 0 j_below) ∙ r.2) (among ws behind m r.0 (omega arith) (omega arith))
       in
-      elim (cases_Bool (stands w)) [
+      elim (cases_Bool (placed w)) [
         | inl e ↦ e
-        | inr e ↦ absurd (false≢true (sym (stuck w (behind i h).0) ∙ and_from (not (stands w)) _ (not_from_false (stands w) e) (list_all-weaker _ stands earlier (needs_of g w) (behind i h).1)))
+        | inr e ↦ absurd (false≢true (sym (stuck w (behind i h).0) ∙ and_from (not (placed w)) _ (not_from_false (placed w) e) (list_all-weaker _ placed earlier (needs_of g w) (behind i h).1)))
       ]
 
-  pub stands_from_can : (w : ℕ) → CanStand g w → stands w ≡ true
-  stands_from_can w can =
-      let r = has_place can.0 w can.2 in subst (λ u. stands u ≡ true) r.2 (among can.0 can.1 (suc r.0) r.0 (omega arith) r.1)
+  pub placed_from_can : (w : ℕ) → CanBePlaced g w → placed w ≡ true
+  placed_from_can w can =
+      let r = has_place can.0 w can.2 in subst (λ u. placed u ≡ true) r.2 (among can.0 can.1 (suc r.0) r.0 (omega arith) r.1)
 
-  pub no_order : (w : ℕ) → w < world_count g → stands w ≡ false → HasNoOrder g
-  no_order w h down ws behind every = false≢true (sym down ∙ stands_from_can w (ws, behind, every w h))
+  pub no_order : (w : ℕ) → w < world_count g → placed w ≡ false → HasNoOrder g
+  no_order w h down ws behind every = false≢true (sym down ∙ placed_from_can w (ws, behind, every w h))
 
--- a world that doesn't stand and couldn't has a first need that doesn't
-pub some_need_down : (stands : ℕ → Bool) (needs : List ℕ) → list_all stands needs ≡ false → IsSome (find (λ v. not (stands v)) needs)
-some_need_down stands [] e = absurd (false≢true (sym e))
-some_need_down stands (v ∷ vs) e =
-    elim (stands v) as (λ b. (b && list_all stands vs) ≡ false → IsSome (cond (not b) (Some v) (find (λ u. not (stands u)) vs))) [
-      | true ↦ λ later. some_need_down stands vs later
+-- a world that isn't placed and can't be has a first need that isn't placed
+pub some_need_left : (placed : ℕ → Bool) (needs : List ℕ) → list_all placed needs ≡ false → IsSome (find (λ v. not (placed v)) needs)
+some_need_left placed [] e = absurd (false≢true (sym e))
+some_need_left placed (v ∷ vs) e =
+    elim (placed v) as (λ b. (b && list_all placed vs) ≡ false → IsSome (cond (not b) (Some v) (find (λ u. not (placed u)) vs))) [
+      | true ↦ λ later. some_need_left placed vs later
       | false ↦ λ _. refl
     ] e
 
-pub all_false : (stands : ℕ → Bool) (g : Worlds) (w : ℕ) → stands w ≡ false → could_stand g stands w ≡ false → list_all stands (needs_of g w) ≡ false
-all_false stands g w down stuck = ap (λ b. not b && list_all stands (needs_of g w)) (sym down) ∙ stuck
+pub all_false : (placed : ℕ → Bool) (g : Worlds) (w : ℕ) → placed w ≡ false → can_be_placed g placed w ≡ false → list_all placed (needs_of g w) ≡ false
+all_false placed g w down stuck = ap (λ b. not b && list_all placed (needs_of g w)) (sym down) ∙ stuck
 
 -- what is found passes and is in the list
 pub find_gives : (test : ℕ → Bool) (xs : List ℕ) (x : ℕ) → find test xs ≡ Some x → (test x ≡ true) × (has xs x ≡ true)
@@ -118,15 +118,15 @@ find_gives test (y ∷ ys) x e =
     later true b e = refl
     later false b e = e
 
--- one more world stands: the first that could
-pub grown : (g : Worlds) (stands : List Bool) (order : List ℕ) (w : ℕ) → w < length stands → IsFirstEachTime g order × ((k : ℕ) → flag stands k ≡ has order k)
-    → IsFirstBelow (world_count g) (could_stand g (flag stands)) w
-    → IsFirstEachTime g (order ++ w ∷ []) × ((k : ℕ) → flag (set stands w true) k ≡ has (order ++ w ∷ []) k)
-grown g stands order w h so_far first =
-    (first_each_push g order w so_far.0 (subst (λ s. IsFirstBelow (world_count g) (could_stand g s) w) (same_test (flag stands) (has order) so_far.1) first), flags_push stands order w h so_far.1)
+-- one more world placed: the first that could
+pub grown : (g : Worlds) (placed : List Bool) (order : List ℕ) (w : ℕ) → w < length placed → IsFirstEachTime g order × ((k : ℕ) → flag placed k ≡ has order k)
+    → IsFirstBelow (world_count g) (can_be_placed g (flag placed)) w
+    → IsFirstEachTime g (order ++ w ∷ []) × ((k : ℕ) → flag (set placed w true) k ≡ has (order ++ w ∷ []) k)
+grown g placed order w h so_far first =
+    (first_each_push g order w so_far.0 (subst (λ s. IsFirstBelow (world_count g) (can_be_placed g s) w) (same_test (flag placed) (has order) so_far.1) first), flags_push placed order w h so_far.1)
 
-pub was_down : (g : Worlds) (stands : ℕ → Bool) (w : ℕ) → could_stand g stands w ≡ true → stands w ≡ false
-was_down g stands w e = not-true (stands w) (and_parts (not (stands w)) (list_all stands (needs_of g w)) e).0
+pub was_left : (g : Worlds) (placed : ℕ → Bool) (w : ℕ) → can_be_placed g placed w ≡ true → placed w ≡ false
+was_left g placed w e = not-true (placed w) (and_parts (not (placed w)) (list_all placed (needs_of g w)) e).0
 
 pub all_down : (n k : ℕ) → flag (replicate n false) k ≡ false
 all_down zero k = refl
