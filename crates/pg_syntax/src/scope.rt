@@ -12,7 +12,7 @@ use pg_terms::Name;
 
 /// The names that count at a place: those of the free variables, of the binders around it, the
 /// outermost first, and what is declared.
-#[derive(Clone, Copy, Debug)]
+#[derive(Clone, Copy)]
 pub struct Scope<'s> {
     pub names: &'s Names,
     pub sig: &'s Signature,
@@ -20,7 +20,7 @@ pub struct Scope<'s> {
 }
 
 /// What a name stands for.
-#[derive(Clone, Copy, Debug)]
+#[derive(Clone, Copy)]
 pub enum Thing {
     /// A binder, by how many stand inside it.
     Binder(u32),
