@@ -22,33 +22,6 @@ use pg_terms::Term;
 use sqlite_items::Items;
 use std::alloc::Global;
 
-// The number of what stands at this byte, if it has as many arguments as it needs.
-fn counted(at: u32, has: u16, needs: u16, id: u16) -> Result<u16, SyntaxFault>
-    ensures { Yields (λ (n : ℕ). n) (meaning.use_fault at has (Some needs)) id result }
-{
-    if has == needs {
-        Ok(id)
-    } else {
-        Err(SyntaxFault::Arity { at, has, needs })
-    }
-}
-
-// How many arguments a function needs.
-fn function_needs(sig: &Signature, f: u16) -> u16
-    requires { f < length (declarations sig.now).functions }
-    ensures { result ≡ names.function_needs (declarations sig.now) f }
-{
-    sig.function_arity(f)
-}
-
-// How many arguments a predicate needs.
-fn predicate_needs(sig: &Signature, p: u16) -> u16
-    requires { p < length (declarations sig.now).predicates }
-    ensures { result ≡ names.predicate_needs (declarations sig.now) p }
-{
-    sig.predicate_arity(p)
-}
-
 /// The function that is applied here, at `count` arguments more. Its shape, with all arguments and
 /// parentheses, is `whole`.
 pub fn called_function(
@@ -119,16 +92,6 @@ pub fn called_predicate(
     }
 }
 
-// The function that a sign at this byte stands for.
-fn function_sign(scope: &Scope<'_>, at: u32, op: Op) -> Result<u16, SyntaxFault>
-    ensures { Yields (λ (f : ℕ). Some f) (meaning.use_fault at 2 (names.function_sign_needs (scope_in scope.now) (sign op))) (names.function_named (declarations scope.now.sig.now) (names.sign_text (sign op))) result }
-{
-    match scope.sig.function_named(sign_text(op)) {
-        None => Err(SyntaxFault::Unknown { at }),
-        Some(f) => counted(at, 2, function_needs(scope.sig, f), f),
-    }
-}
-
 /// The function that the sign of an infix shape, at this byte, stands for. With its parentheses the
 /// shape is `whole`.
 pub fn infix_function(
@@ -151,6 +114,16 @@ pub fn infix_function(
     }
 }
 
+/// The function that a sign at this byte stands for.
+fn function_sign(scope: &Scope<'_>, at: u32, op: Op) -> Result<u16, SyntaxFault>
+    ensures { Yields (λ (f : ℕ). Some f) (meaning.use_fault at 2 (names.function_sign_needs (scope_in scope.now) (sign op))) (names.function_named (declarations scope.now.sig.now) (names.sign_text (sign op))) result }
+{
+    match scope.sig.function_named(sign_text(op)) {
+        None => Err(SyntaxFault::Unknown { at }),
+        Some(f) => counted(at, 2, function_needs(scope.sig, f), f),
+    }
+}
+
 /// The predicate that a sign at this byte stands for.
 pub fn predicate_sign(scope: &Scope<'_>, at: u32, op: Op) -> Result<u16, SyntaxFault>
     ensures { Yields (λ (p : ℕ). Some p) (meaning.use_fault at 2 (names.predicate_sign_needs (scope_in scope.now) (sign op))) (names.predicate_named (declarations scope.now.sig.now) (names.sign_text (sign op))) result }
@@ -159,15 +132,6 @@ pub fn predicate_sign(scope: &Scope<'_>, at: u32, op: Op) -> Result<u16, SyntaxF
         None => Err(SyntaxFault::Unknown { at }),
         Some(p) => counted(at, 2, predicate_needs(scope.sig, p), p),
     }
-}
-
-// A function without arguments, which stands at this byte.
-fn constant(alloc: Global, scope: &Scope<'_>, at: u32, f: u16) -> Result<Term, SyntaxFault>
-    requires { f < length (declarations scope.now.sig.now).functions }
-    ensures { Yields term (meaning.use_fault at 0 (Some (names.function_needs (declarations scope.now.sig.now) f))) (app f none) result }
-{
-    let f = counted(at, 0, function_needs(scope.sig, f), f)?;
-    Ok(Term::App(f, Items::new(alloc)))
 }
 
 /// The term that a name without arguments means. With its parentheses it is `whole`.
@@ -203,4 +167,40 @@ pub fn number_term(alloc: Global, scope: &Scope<'_>, number: &Word<'_>) -> Resul
         None => Err(SyntaxFault::Unknown { at: number.at }),
         Some(f) => constant(alloc, scope, number.at, f),
     }
+}
+
+/// A function without arguments, which stands at this byte.
+fn constant(alloc: Global, scope: &Scope<'_>, at: u32, f: u16) -> Result<Term, SyntaxFault>
+    requires { f < length (declarations scope.now.sig.now).functions }
+    ensures { Yields term (meaning.use_fault at 0 (Some (names.function_needs (declarations scope.now.sig.now) f))) (app f none) result }
+{
+    let f = counted(at, 0, function_needs(scope.sig, f), f)?;
+    Ok(Term::App(f, Items::new(alloc)))
+}
+
+/// The number of what stands at this byte, if it has as many arguments as it needs.
+fn counted(at: u32, has: u16, needs: u16, id: u16) -> Result<u16, SyntaxFault>
+    ensures { Yields (λ (n : ℕ). n) (meaning.use_fault at has (Some needs)) id result }
+{
+    if has == needs {
+        Ok(id)
+    } else {
+        Err(SyntaxFault::Arity { at, has, needs })
+    }
+}
+
+/// How many arguments a function needs.
+fn function_needs(sig: &Signature, f: u16) -> u16
+    requires { f < length (declarations sig.now).functions }
+    ensures { result ≡ names.function_needs (declarations sig.now) f }
+{
+    sig.function_arity(f)
+}
+
+/// How many arguments a predicate needs.
+fn predicate_needs(sig: &Signature, p: u16) -> u16
+    requires { p < length (declarations sig.now).predicates }
+    ensures { result ≡ names.predicate_needs (declarations sig.now) p }
+{
+    sig.predicate_arity(p)
 }

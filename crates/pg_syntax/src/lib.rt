@@ -13,8 +13,6 @@ mod reader;
 mod scope;
 mod statement;
 mod term;
-#[cfg(test)]
-mod tests;
 mod written;
 
 pub use fault::SyntaxFault;

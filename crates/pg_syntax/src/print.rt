@@ -1,4 +1,4 @@
-//! Terms and formulas as texts.
+// Terms and formulas as texts.
 ghost use Rattle.std.specs.Prelude.{◌≡◌, ◌<◌, ◌++◌, IfOk, OnOk, string_bytes};
 ghost use Rattle.pg_arith.specs.View.{declarations};
 ghost use Rattle.pg_terms.specs.View.{term, formula};
@@ -25,71 +25,64 @@ use pg_terms::{Formula, Name, Term};
 use sqlite_items::Items;
 use std::alloc::{AllocError, Global};
 
-fn place<'a>(cx: &Context<'a>, binders: &'a Items<Name>) -> Place<'a>
-    ensures context { result.context ≡ cx.now }
-    ensures binders { result.binders.now ≡ binders.now }
+/// The text of a formula: its one printed spelling, with the names of variables by `names`, each
+/// binder's name made fresh, and the least parentheses (docs/LOGIC.md, "Printing"). A number that
+/// has no name is printed as nothing. It fails only for want of memory.
+///
+/// The shape of the text means the same formula again, its binders named as printed, where
+///
+/// - the formula fits and has live variables only;
+/// - the live names differ from one another and from the declared names;
+/// - each function, constant and predicate of the formula is named as a declaration may name it: by
+///   a name, by a sign with two arguments (`+`, `*`, `^` for a function, `≤`, `<` for a predicate),
+///   or by a number other than 0 for a constant;
+/// - the names that a binder may not have and the nodes of the formula are fewer than 2^64.
+///
+/// The text itself reads back as that formula where besides each name is the text of a token, a
+/// binder's printed name has at most 48 bytes, the text has at most 8,192 tokens, and none is nested
+/// more than 100 deep: `tokens_of` gives its tokens and no fault, and `read_formula` reads them as
+/// the formula.
+pub fn print_formula(
+    alloc: Global,
+    formula: &Formula,
+    names: &Names,
+    sig: &Signature,
+) -> Result<String, AllocError>
+    ensures text { IfOk result (λ text. string_bytes text ≡ printed_formula (outermost names.now.vars.items (declarations sig.now)) (view.formula formula.now)) }
+    ensures reads { IfOk result (λ text. CanReadFormula names.now.vars.items (declarations sig.now) (view.formula formula.now) → ReadsBack (outermost names.now.vars.items (declarations sig.now)) (view.formula formula.now)) }
+    ensures again { IfOk result (λ text. FormulaComesBack names.now.vars.items (declarations sig.now) (view.formula formula.now) (string_bytes text)) }
 {
-    Place {
-        context: *cx,
-        binders: binders.as_slice(),
-    }
+    sig.declared_law();
+    let cx = Context { names, sig };
+    let p = Printer { alloc, cx: &cx };
+    let mut out = String::new(alloc);
+    let mut binders = Items::new(alloc);
+    write_formula(&p, &mut out, &mut binders, formula)?;
+    Ok(out)
 }
 
-fn quantifier_text(q: Quantifier) -> &'static str
-    ensures { result.now ≡ quantifier_text (quantifier q) }
+/// The text of a term, as `print_formula` has it. Its shape means the same term again where the same
+/// holds of the term; no number of nodes is asked. The text reads back as that term where besides each name is the
+/// text of a token, and the text has at most 8,192 tokens, none of which is nested more than 100
+/// deep.
+pub fn print_term(
+    alloc: Global,
+    term: &Term,
+    names: &Names,
+    sig: &Signature,
+) -> Result<String, AllocError>
+    ensures text { IfOk result (λ text. string_bytes text ≡ printed (outermost names.now.vars.items (declarations sig.now)) (view.term term.now)) }
+    ensures reads { IfOk result (λ text. CanReadTerm names.now.vars.items (declarations sig.now) (view.term term.now) → TermReadsBack (outermost names.now.vars.items (declarations sig.now)) (view.term term.now)) }
+    ensures again { IfOk result (λ text. TermComesBack names.now.vars.items (declarations sig.now) (view.term term.now) (string_bytes text)) }
 {
-    match q {
-        Quantifier::ForAll => "∀",
-        Quantifier::Exists => "∃",
-    }
-}
-
-/// Whether a formula is `False`.
-fn is_falsum(a: &Formula) -> bool
-    ensures { result ≡ is_falsum (formula a.now) }
-{
-    matches!(a, Formula::Falsum)
-}
-
-/// The sides of an equation.
-fn sides(a: &Formula) -> Option<(&Term, &Term)>
-    ensures { Sides (formula a.now) result }
-{
-    match a {
-        Formula::Eq(s, t) => Some((s, t)),
-        _ => None,
-    }
-}
-
-/// How strong an implication is as an operand.
-fn implication_weight(a: &Formula, b: &Formula) -> u8
-    ensures { (s : _) → result ≡ weight (shape_of (named_formula s (imp (formula a.now) (formula b.now)))) }
-{
-    if !is_falsum(b) {
-        return Op::Implies.level();
-    }
-    match sides(a) {
-        Some(_) => Op::NotEqual.level(),
-        None => NEGATION,
-    }
-}
-
-/// How strong a formula is as an operand.
-fn formula_weight(cx: &Context<'_>, binders: &Items<Name>, a: &Formula) -> u8
-    ensures { result ≡ weight (shape_of (named_formula (scope_under cx.now binders.now) (formula a.now))) }
-{
-    match a {
-        Formula::Falsum => ATOM,
-        Formula::Eq(_, _) => Op::Equal.level(),
-        Formula::Pred(p, ts) => {
-            let at = place(cx, binders);
-            call_weight(&at, at.predicate(*p), ts.as_slice())
-        }
-        Formula::And(_, _) => Op::And.level(),
-        Formula::Or(_, _) => Op::Or.level(),
-        Formula::Imp(a, b) => implication_weight(a.get(), b.get()),
-        Formula::All(_, _) | Formula::Ex(_, _) => 0,
-    }
+    sig.declared_law();
+    let mut out = String::new(alloc);
+    let place = Place {
+        context: Context { names, sig },
+        binders: &[],
+    };
+    write_term(&mut out, &place, term)?;
+    Ok(out)
 }
 
 /// Where a formula is written: behind what is written, under the names of the binders around.
@@ -125,6 +118,25 @@ fn write_formula(
     }
 }
 
+/// Writes a sign between two formulas.
+#[cycle(write)]
+#[tactic(auto, using(crate::proofs::Weights::table))]
+fn write_both(
+    p: &Printer<'_>,
+    out: &mut String,
+    binders: &mut Items<Name>,
+    sign: Op,
+    a: &Formula,
+    b: &Formula,
+) -> Result<(), AllocError>
+    ensures text { OnOk result (string_bytes out.new ≡ string_bytes out.old ++ written (joined (op sign) (shape_of (named_formula (scope_under p.now.cx.now binders.old) (formula a.now))) (shape_of (named_formula (scope_under p.now.cx.now binders.old) (formula b.now))))) }
+    ensures kept { OnOk result (binders.new ≡ binders.old) }
+{
+    write_operand(p, out, binders, sign.left_min(), a)?;
+    write_sign(out, sign)?;
+    write_operand(p, out, binders, sign.right_min(), b)
+}
+
 /// Writes a formula as an operand, in parentheses where it is weaker than is wanted.
 #[cycle(write)]
 fn write_operand(
@@ -145,25 +157,6 @@ fn write_operand(
     } else {
         write_formula(p, out, binders, a)
     }
-}
-
-/// Writes a sign between two formulas.
-#[cycle(write)]
-#[tactic(auto, using(crate::proofs::Weights::table))]
-fn write_both(
-    p: &Printer<'_>,
-    out: &mut String,
-    binders: &mut Items<Name>,
-    sign: Op,
-    a: &Formula,
-    b: &Formula,
-) -> Result<(), AllocError>
-    ensures text { OnOk result (string_bytes out.new ≡ string_bytes out.old ++ written (joined (op sign) (shape_of (named_formula (scope_under p.now.cx.now binders.old) (formula a.now))) (shape_of (named_formula (scope_under p.now.cx.now binders.old) (formula b.now))))) }
-    ensures kept { OnOk result (binders.new ≡ binders.old) }
-{
-    write_operand(p, out, binders, sign.left_min(), a)?;
-    write_sign(out, sign)?;
-    write_operand(p, out, binders, sign.right_min(), b)
 }
 
 /// Writes an implication: one of `False` is an inequality or a negation.
@@ -219,62 +212,71 @@ fn write_bound(
     Ok(())
 }
 
-/// The text of a formula: its one printed spelling, with the names of variables by `names`, each
-/// binder's name made fresh, and the least parentheses (docs/LOGIC.md, "Printing"). A number that
-/// has no name is printed as nothing. It fails only for want of memory.
-///
-/// The shape of the text means the same formula again, its binders named as printed, where
-///
-/// - the formula fits and has live variables only;
-/// - the live names differ from one another and from the declared names;
-/// - each function, constant and predicate of the formula is named as a declaration may name it: by
-///   a name, by a sign with two arguments (`+`, `*`, `^` for a function, `≤`, `<` for a predicate),
-///   or by a number other than 0 for a constant;
-/// - the names that a binder may not have and the nodes of the formula are fewer than 2^64.
-///
-/// The text itself reads back as that formula where besides each name is the text of a token, a
-/// binder's printed name has at most 48 bytes, the text has at most 8,192 tokens, and none is nested
-/// more than 100 deep: `tokens_of` gives its tokens and no fault, and `read_formula` reads them as
-/// the formula.
-pub fn print_formula(
-    alloc: Global,
-    formula: &Formula,
-    names: &Names,
-    sig: &Signature,
-) -> Result<String, AllocError>
-    ensures text { IfOk result (λ text. string_bytes text ≡ printed_formula (outermost names.now.vars.items (declarations sig.now)) (view.formula formula.now)) }
-    ensures reads { IfOk result (λ text. CanReadFormula names.now.vars.items (declarations sig.now) (view.formula formula.now) → ReadsBack (outermost names.now.vars.items (declarations sig.now)) (view.formula formula.now)) }
-    ensures again { IfOk result (λ text. FormulaComesBack names.now.vars.items (declarations sig.now) (view.formula formula.now) (string_bytes text)) }
+/// How strong a formula is as an operand.
+fn formula_weight(cx: &Context<'_>, binders: &Items<Name>, a: &Formula) -> u8
+    ensures { result ≡ weight (shape_of (named_formula (scope_under cx.now binders.now) (formula a.now))) }
 {
-    sig.declared_law();
-    let cx = Context { names, sig };
-    let p = Printer { alloc, cx: &cx };
-    let mut out = String::new(alloc);
-    let mut binders = Items::new(alloc);
-    write_formula(&p, &mut out, &mut binders, formula)?;
-    Ok(out)
+    match a {
+        Formula::Falsum => ATOM,
+        Formula::Eq(_, _) => Op::Equal.level(),
+        Formula::Pred(p, ts) => {
+            let at = place(cx, binders);
+            call_weight(&at, at.predicate(*p), ts.as_slice())
+        }
+        Formula::And(_, _) => Op::And.level(),
+        Formula::Or(_, _) => Op::Or.level(),
+        Formula::Imp(a, b) => implication_weight(a.get(), b.get()),
+        Formula::All(_, _) | Formula::Ex(_, _) => 0,
+    }
 }
 
-/// The text of a term, likewise. Its shape means the same term again where the same holds of the
-/// term; no number of nodes is asked. The text reads back as that term where besides each name is the
-/// text of a token, and the text has at most 8,192 tokens, none of which is nested more than 100
-/// deep.
-pub fn print_term(
-    alloc: Global,
-    term: &Term,
-    names: &Names,
-    sig: &Signature,
-) -> Result<String, AllocError>
-    ensures text { IfOk result (λ text. string_bytes text ≡ printed (outermost names.now.vars.items (declarations sig.now)) (view.term term.now)) }
-    ensures reads { IfOk result (λ text. CanReadTerm names.now.vars.items (declarations sig.now) (view.term term.now) → TermReadsBack (outermost names.now.vars.items (declarations sig.now)) (view.term term.now)) }
-    ensures again { IfOk result (λ text. TermComesBack names.now.vars.items (declarations sig.now) (view.term term.now) (string_bytes text)) }
+/// How strong an implication is as an operand.
+fn implication_weight(a: &Formula, b: &Formula) -> u8
+    ensures { (s : _) → result ≡ weight (shape_of (named_formula s (imp (formula a.now) (formula b.now)))) }
 {
-    sig.declared_law();
-    let mut out = String::new(alloc);
-    let place = Place {
-        context: Context { names, sig },
-        binders: &[],
-    };
-    write_term(&mut out, &place, term)?;
-    Ok(out)
+    if !is_falsum(b) {
+        return Op::Implies.level();
+    }
+    match sides(a) {
+        Some(_) => Op::NotEqual.level(),
+        None => NEGATION,
+    }
+}
+
+/// Whether a formula is `False`.
+fn is_falsum(a: &Formula) -> bool
+    ensures { result ≡ is_falsum (formula a.now) }
+{
+    matches!(a, Formula::Falsum)
+}
+
+/// The sides of an equation.
+fn sides(a: &Formula) -> Option<(&Term, &Term)>
+    ensures { Sides (formula a.now) result }
+{
+    match a {
+        Formula::Eq(s, t) => Some((s, t)),
+        _ => None,
+    }
+}
+
+/// A quantifier's sign.
+fn quantifier_text(q: Quantifier) -> &'static str
+    ensures { result.now ≡ quantifier_text (quantifier q) }
+{
+    match q {
+        Quantifier::ForAll => "∀",
+        Quantifier::Exists => "∃",
+    }
+}
+
+/// What a term is printed with under these binders.
+fn place<'a>(cx: &Context<'a>, binders: &'a Items<Name>) -> Place<'a>
+    ensures context { result.context ≡ cx.now }
+    ensures binders { result.binders.now ≡ binders.now }
+{
+    Place {
+        context: *cx,
+        binders: binders.as_slice(),
+    }
 }

@@ -24,33 +24,28 @@ use pg_terms::{Formula, Term};
 use sqlite_items::Items;
 use std::alloc::Global;
 
-// The fault of a shape.
-fn misshapen(fault: ShapeFault) -> SyntaxFault
-    ensures { IsMisshapen fault result }
-{
-    match fault {
-        ShapeFault::Expected { at, what } => SyntaxFault::Expected { at, what },
-        ShapeFault::Deep { at } => SyntaxFault::Deep { at },
-        ShapeFault::Long { at } => SyntaxFault::Long { at },
-        ShapeFault::OutOfMemory => SyntaxFault::OutOfMemory,
-    }
-}
-
-// The shape of tokens, with what is known of it.
-#[tactic(auto, using(crate::proofs::Readable::readable, crate::proofs::Readable::small))]
-fn shape_in_tokens<'a>(
+/// The term that these tokens, whose end is the byte `end`, spell under these names and this signature.
+/// Where they spell none it is the first fault: that of their shape as `shape_of` gives it, else that
+/// of its meaning, a shape before its parts and parts from the left. Want of memory is `OutOfMemory`.
+#[tactic(auto, using(crate::proofs::Answering::right_term, crate::proofs::Answering::fit_term))]
+pub fn read_term(
     alloc: Global,
-    tokens: &[Token<'a>],
+    tokens: &[Token<'_>],
     end: u32,
-) -> Result<Shape<'a>, ShapeFault>
-    requires { All (λ (w : Lexeme). IsTokenText w.kind w.text) (map word tokens.now) }
-    ensures reads { GivesShape (shape_answer end (map word tokens.now)) result }
-    ensures readable { IfOk result (λ s. IsReadable (shape_in s)) }
-    ensures small { IfOk result (λ s. nodes (shape_in s) < 2 ^ 16) }
+    names: &Names,
+    sig: &Signature,
+) -> Result<Term, SyntaxFault>
+    requires vars { length names.now.vars.items < 2 ^ 32 }
+    requires texts { All (λ (w : Lexeme). IsTokenText w.kind w.text) (map word tokens.now) }
+    ensures reads { Gives term_in (term_answer (scope_of names.now sig.now []) end (map word tokens.now)) result }
+    ensures right { IsRightTerm (scope_of names.now sig.now []) end (map word tokens.now) result }
+    ensures fits { IfOk result (λ t. fits_term (signature sig.now).functions (length (names_in names.now)) 0 (term_in t) ≡ true) }
+    ensures live { IfOk result (λ t. is_live (names_in names.now) (term_in t) ≡ true) }
 {
-    shape_of(alloc, tokens, end)
+    term_in_tokens(alloc, tokens, end, names, sig)
 }
 
+/// The term of the tokens, outside all binders.
 fn term_in_tokens(
     alloc: Global,
     tokens: &[Token<'_>],
@@ -72,48 +67,6 @@ fn term_in_tokens(
         Err(fault) => Err(misshapen(fault)),
         Ok(shape) => term(alloc, &scope, &shape, &shape),
     }
-}
-
-fn formula_in_tokens(
-    alloc: Global,
-    tokens: &[Token<'_>],
-    end: u32,
-    names: &Names,
-    sig: &Signature,
-) -> Result<Formula, SyntaxFault>
-    requires vars { length names.now.vars.items < 2 ^ 32 }
-    requires texts { All (λ (w : Lexeme). IsTokenText w.kind w.text) (map word tokens.now) }
-    ensures { Gives formula_in (formula_answer (scope_of names.now sig.now []) end (map word tokens.now)) result }
-{
-    let mut binders = Items::new(alloc);
-    match shape_in_tokens(alloc, tokens, end) {
-        Err(fault) => Err(misshapen(fault)),
-        Ok(shape) => match formula(alloc, names, sig, &mut binders, &shape, &shape) {
-            Err(fault) => Err(fault),
-            Ok(a) => Ok(a.into_inner()),
-        },
-    }
-}
-
-/// The term that these tokens, whose end is the byte `end`, spell under these names and this signature.
-/// Where they spell none it is the first fault: that of their shape as `shape_of` gives it, else that
-/// of its meaning, a shape before its parts and parts from the left. Want of memory is `OutOfMemory`.
-#[tactic(auto, using(crate::proofs::Answering::right_term, crate::proofs::Answering::fit_term))]
-pub fn read_term(
-    alloc: Global,
-    tokens: &[Token<'_>],
-    end: u32,
-    names: &Names,
-    sig: &Signature,
-) -> Result<Term, SyntaxFault>
-    requires vars { length names.now.vars.items < 2 ^ 32 }
-    requires texts { All (λ (w : Lexeme). IsTokenText w.kind w.text) (map word tokens.now) }
-    ensures reads { Gives term_in (term_answer (scope_of names.now sig.now []) end (map word tokens.now)) result }
-    ensures right { IsRightTerm (scope_of names.now sig.now []) end (map word tokens.now) result }
-    ensures fits { IfOk result (λ t. fits_term (signature sig.now).functions (length (names_in names.now)) 0 (term_in t) ≡ true) }
-    ensures live { IfOk result (λ t. is_live (names_in names.now) (term_in t) ≡ true) }
-{
-    term_in_tokens(alloc, tokens, end, names, sig)
 }
 
 /// The formula that these tokens, whose end is the byte `end`, spell under these names and this
@@ -138,5 +91,51 @@ pub fn read_formula(
     formula_in_tokens(alloc, tokens, end, names, sig)
 }
 
-#[cfg(test)]
-mod tests;
+/// The formula of the tokens, outside all binders.
+fn formula_in_tokens(
+    alloc: Global,
+    tokens: &[Token<'_>],
+    end: u32,
+    names: &Names,
+    sig: &Signature,
+) -> Result<Formula, SyntaxFault>
+    requires vars { length names.now.vars.items < 2 ^ 32 }
+    requires texts { All (λ (w : Lexeme). IsTokenText w.kind w.text) (map word tokens.now) }
+    ensures { Gives formula_in (formula_answer (scope_of names.now sig.now []) end (map word tokens.now)) result }
+{
+    let mut binders = Items::new(alloc);
+    match shape_in_tokens(alloc, tokens, end) {
+        Err(fault) => Err(misshapen(fault)),
+        Ok(shape) => match formula(alloc, names, sig, &mut binders, &shape, &shape) {
+            Err(fault) => Err(fault),
+            Ok(a) => Ok(a.into_inner()),
+        },
+    }
+}
+
+/// The shape of tokens, with what is known of it.
+#[tactic(auto, using(crate::proofs::Readable::readable, crate::proofs::Readable::small))]
+fn shape_in_tokens<'a>(
+    alloc: Global,
+    tokens: &[Token<'a>],
+    end: u32,
+) -> Result<Shape<'a>, ShapeFault>
+    requires { All (λ (w : Lexeme). IsTokenText w.kind w.text) (map word tokens.now) }
+    ensures reads { GivesShape (shape_answer end (map word tokens.now)) result }
+    ensures readable { IfOk result (λ s. IsReadable (shape_in s)) }
+    ensures small { IfOk result (λ s. nodes (shape_in s) < 2 ^ 16) }
+{
+    shape_of(alloc, tokens, end)
+}
+
+/// The fault of a shape.
+fn misshapen(fault: ShapeFault) -> SyntaxFault
+    ensures { IsMisshapen fault result }
+{
+    match fault {
+        ShapeFault::Expected { at, what } => SyntaxFault::Expected { at, what },
+        ShapeFault::Deep { at } => SyntaxFault::Deep { at },
+        ShapeFault::Long { at } => SyntaxFault::Long { at },
+        ShapeFault::OutOfMemory => SyntaxFault::OutOfMemory,
+    }
+}

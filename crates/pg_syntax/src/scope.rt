@@ -12,7 +12,7 @@ use pg_terms::Name;
 
 /// The names that count at a place: those of the free variables, of the binders around it, the
 /// outermost first, and what is declared.
-#[derive(Clone, Copy, Debug)]
+#[derive(Clone, Copy)]
 pub struct Scope<'s> {
     pub names: &'s Names,
     pub sig: &'s Signature,
@@ -20,7 +20,7 @@ pub struct Scope<'s> {
 }
 
 /// What a name stands for.
-#[derive(Clone, Copy, Debug)]
+#[derive(Clone, Copy)]
 pub enum Thing {
     /// A binder, by how many stand inside it.
     Binder(u32),
@@ -30,38 +30,6 @@ pub enum Thing {
     Function(u16),
     /// A predicate, by number.
     Predicate(u16),
-}
-
-// The innermost binder of this name, by how many stand inside it.
-fn binder_place(binders: &[Name], text: &str) -> Option<usize>
-    ensures is { result ≡ position (bytes_eq text.now) (reverse binders.now) }
-    ensures bound { IfSome result (λ i. i < length binders.now) }
-{
-    binders.iter().rev().position(|name| text == name.as_str())
-}
-
-fn is_called(text: &str, name: &Option<Name>) -> bool
-    ensures { result ≡ meaning.is_called text.now name.now }
-{
-    match name {
-        None => false,
-        Some(name) => text == name.as_str(),
-    }
-}
-
-// The first live variable of this name.
-fn variable_place(vars: &[Option<Name>], text: &str) -> Option<u32>
-    requires { length vars.now < 2 ^ 32 }
-    ensures { result ≡ position (meaning.is_called text.now) vars.now }
-{
-    let mut number: u32 = 0;
-    for name in vars {
-        if is_called(text, name) {
-            return Some(number);
-        }
-        number += 1;
-    }
-    None
 }
 
 impl<'s> Scope<'s> {
@@ -85,6 +53,39 @@ impl<'s> Scope<'s> {
             Some(p) => Some(Thing::Predicate(p)),
             None => None,
         }
+    }
+}
+
+/// The innermost binder of this name, by how many stand inside it.
+fn binder_place(binders: &[Name], text: &str) -> Option<usize>
+    ensures is { result ≡ position (bytes_eq text.now) (reverse binders.now) }
+    ensures bound { IfSome result (λ i. i < length binders.now) }
+{
+    binders.iter().rev().position(|name| text == name.as_str())
+}
+
+/// The first live variable of this name.
+fn variable_place(vars: &[Option<Name>], text: &str) -> Option<u32>
+    requires { length vars.now < 2 ^ 32 }
+    ensures { result ≡ position (meaning.is_called text.now) vars.now }
+{
+    let mut number: u32 = 0;
+    for name in vars {
+        if is_called(text, name) {
+            return Some(number);
+        }
+        number += 1;
+    }
+    None
+}
+
+/// Whether a free variable lives and has this name.
+fn is_called(text: &str, name: &Option<Name>) -> bool
+    ensures { result ≡ meaning.is_called text.now name.now }
+{
+    match name {
+        None => false,
+        Some(name) => text == name.as_str(),
     }
 }
 

@@ -1,4 +1,4 @@
-//! Statements, and their closed formulas.
+// Statements, and their closed formulas.
 ghost use Rattle.std.specs.Prelude.{◌≡◌, ◌<◌, ◌^◌, ◌+◌, IfOk, IsTrue};
 ghost use Rattle.pg_logic.specs.Tree as tree;
 ghost use Rattle.pg_terms.specs.View.{formula};
@@ -24,27 +24,23 @@ pub struct Statement {
     pub target: Formula,
 }
 
-/// A formula under a universal quantifier, closed over a free variable.
-fn quantified(
-    alloc: Global,
-    name: &Name,
-    free: u32,
-    body: &Formula,
-) -> Result<Boxed<Formula>, AllocError>
-    requires small { tree.nodes_of (formula body.now) < 2 ^ 32 }
-    requires tight { IsTrue (tree.is_tight_formula 0 (formula body.now)) }
-    ensures { IfOk result (λ a. formula a ≡ tree.all name.now (tree.closed_over_formula free (formula body.now))) }
+/// The closed formula of a statement: `∀` for a variable and `→` for a hypothesis, the first binder
+/// outermost (docs/LOGIC.md, "Statements"). No formula of the statement has a loose bound variable,
+/// and the binders and the nodes of all formulas are together fewer than 2^32. Over each signature
+/// where each hypothesis fits the variables before it and the target all of them, the formula has no
+/// free variable, and it is true where the target is true under all numbers for the variables under
+/// which the hypotheses are true. It fails only for want of memory.
+#[tactic(auto, using(crate::proofs::StatementTruth::statement_truth))]
+pub fn statement_formula(alloc: Global, statement: &Statement) -> Result<Formula, AllocError>
+    requires tight { AreTight statement.now.binders.items (formula statement.now.target) }
+    requires small { total statement.now.binders.items (formula statement.now.target) < 2 ^ 32 }
+    ensures is { IfOk result (λ a. formula a ≡ closed statement.now.binders.items (formula statement.now.target)) }
+    ensures closes { IfOk result (λ a. Closes statement.now.binders.items (formula statement.now.target) (formula a)) }
+    ensures means { IfOk result (λ a. Means statement.now.binders.items (formula statement.now.target) (formula a)) }
 {
-    let body = Boxed::new(alloc, body.closed_over(alloc, free)?)?;
-    Boxed::new(alloc, Formula::All(name.copied(alloc)?, body))
-}
-
-/// An implication.
-fn implication(alloc: Global, a: &Formula, b: Boxed<Formula>) -> Result<Boxed<Formula>, AllocError>
-    ensures { IfOk result (λ c. formula c ≡ tree.imp (formula a.now) (formula b)) }
-{
-    let a = Boxed::new(alloc, a.copied(alloc)?)?;
-    Boxed::new(alloc, Formula::Imp(a, b))
+    let binders = statement.binders.as_slice();
+    let made = closed_from(alloc, binders, 0, &statement.target)?;
+    Ok(made.into_inner())
 }
 
 /// The formula of these binders and the target, where so many variables stand before.
@@ -74,21 +70,25 @@ fn closed_from(
     }
 }
 
-/// The closed formula of a statement: `∀` for a variable and `→` for a hypothesis, the first binder
-/// outermost (docs/LOGIC.md, "Statements"). No formula of the statement has a loose bound variable,
-/// and the binders and the nodes of all formulas are together fewer than 2^32. Over each signature
-/// where each hypothesis fits the variables before it and the target all of them, the formula has no
-/// free variable, and it is true where the target is true under all numbers for the variables under
-/// which the hypotheses are true. It fails only for want of memory.
-#[tactic(auto, using(crate::proofs::StatementTruth::statement_truth))]
-pub fn statement_formula(alloc: Global, statement: &Statement) -> Result<Formula, AllocError>
-    requires tight { AreTight statement.now.binders.items (formula statement.now.target) }
-    requires small { total statement.now.binders.items (formula statement.now.target) < 2 ^ 32 }
-    ensures is { IfOk result (λ a. formula a ≡ closed statement.now.binders.items (formula statement.now.target)) }
-    ensures closes { IfOk result (λ a. Closes statement.now.binders.items (formula statement.now.target) (formula a)) }
-    ensures means { IfOk result (λ a. Means statement.now.binders.items (formula statement.now.target) (formula a)) }
+/// A formula under a universal quantifier, closed over a free variable.
+fn quantified(
+    alloc: Global,
+    name: &Name,
+    free: u32,
+    body: &Formula,
+) -> Result<Boxed<Formula>, AllocError>
+    requires small { tree.nodes_of (formula body.now) < 2 ^ 32 }
+    requires tight { IsTrue (tree.is_tight_formula 0 (formula body.now)) }
+    ensures { IfOk result (λ a. formula a ≡ tree.all name.now (tree.closed_over_formula free (formula body.now))) }
 {
-    let binders = statement.binders.as_slice();
-    let made = closed_from(alloc, binders, 0, &statement.target)?;
-    Ok(made.into_inner())
+    let body = Boxed::new(alloc, body.closed_over(alloc, free)?)?;
+    Boxed::new(alloc, Formula::All(name.copied(alloc)?, body))
+}
+
+/// An implication.
+fn implication(alloc: Global, a: &Formula, b: Boxed<Formula>) -> Result<Boxed<Formula>, AllocError>
+    ensures { IfOk result (λ c. formula c ≡ tree.imp (formula a.now) (formula b)) }
+{
+    let a = Boxed::new(alloc, a.copied(alloc)?)?;
+    Boxed::new(alloc, Formula::Imp(a, b))
 }

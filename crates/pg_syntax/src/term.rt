@@ -19,33 +19,6 @@ use pg_terms::Term;
 use sqlite_items::{Boxed, Items};
 use std::alloc::{AllocError, Global};
 
-/// Two arguments.
-pub fn pair(alloc: Global, left: Term, right: Term) -> Result<Items<Term>, AllocError>
-    ensures { IfOk result (λ ts. args ts ≡ trees.two (term_in left) (term_in right)) }
-{
-    let mut both = Items::new(alloc);
-    both.push(left)?;
-    both.push(right)?;
-    Ok(both)
-}
-
-// A function of two arguments at these.
-fn infix(alloc: Global, f: u16, left: Term, right: Term) -> Result<Term, AllocError>
-    ensures { IfOk result (λ t. term_in t ≡ app f (trees.two (term_in left) (term_in right))) }
-{
-    Ok(Term::App(f, pair(alloc, left, right)?))
-}
-
-// One argument more, the last.
-#[tactic(auto, using(crate::proofs::Calls::calls))]
-fn with_last(ts: Items<Term>, t: Term) -> Result<Items<Term>, AllocError>
-    ensures { IfOk result (λ more. args more ≡ trees.with_last (args ts) (term_in t)) }
-{
-    let mut more = ts;
-    more.push(t)?;
-    Ok(more)
-}
-
 /// The term that this shape means, or its first fault. With its parentheses it is `whole`. The
 /// recursion is as deep as the shape's left operands and arguments are.
 #[cycle(term)]
@@ -115,4 +88,31 @@ pub fn arguments(
         Shape::Named(_) => Ok(Items::new(alloc)),
         _ => unreachable!(),
     }
+}
+
+/// One argument more, the last.
+#[tactic(auto, using(crate::proofs::Calls::calls))]
+fn with_last(ts: Items<Term>, t: Term) -> Result<Items<Term>, AllocError>
+    ensures { IfOk result (λ more. args more ≡ trees.with_last (args ts) (term_in t)) }
+{
+    let mut more = ts;
+    more.push(t)?;
+    Ok(more)
+}
+
+/// A function of two arguments at these.
+fn infix(alloc: Global, f: u16, left: Term, right: Term) -> Result<Term, AllocError>
+    ensures { IfOk result (λ t. term_in t ≡ app f (trees.two (term_in left) (term_in right))) }
+{
+    Ok(Term::App(f, pair(alloc, left, right)?))
+}
+
+/// Two arguments.
+pub fn pair(alloc: Global, left: Term, right: Term) -> Result<Items<Term>, AllocError>
+    ensures { IfOk result (λ ts. args ts ≡ trees.two (term_in left) (term_in right)) }
+{
+    let mut both = Items::new(alloc);
+    both.push(left)?;
+    both.push(right)?;
+    Ok(both)
 }

@@ -28,43 +28,6 @@ pub struct Place<'a> {
     pub binders: &'a [Name],
 }
 
-/// The spelling of a sign.
-pub fn op_text(sign: Op) -> &'static str
-    ensures { result.now ≡ op_text (op sign) }
-{
-    match sign {
-        Op::Implies => "→",
-        Op::Or => "∨",
-        Op::And => "∧",
-        Op::Equal => "=",
-        Op::NotEqual => "≠",
-        Op::LessEqual => "≤",
-        Op::Less => "<",
-        Op::Plus => "+",
-        Op::Times => "*",
-        Op::Power => "^",
-    }
-}
-
-/// The sign that a function or a predicate has for its name.
-pub fn sign_named(name: &str) -> Option<Op>
-    ensures { option_map op result ≡ option_map sign_of (sign_named name.now) }
-{
-    if name == "+" {
-        Some(Op::Plus)
-    } else if name == "*" {
-        Some(Op::Times)
-    } else if name == "^" {
-        Some(Op::Power)
-    } else if name == "≤" {
-        Some(Op::LessEqual)
-    } else if name == "<" {
-        Some(Op::Less)
-    } else {
-        None
-    }
-}
-
 impl<'a> Place<'a> {
     /// The name of a free variable; one that has none is printed as nothing.
     fn variable(&self, i: u32) -> &'a str
@@ -114,42 +77,6 @@ impl<'a> Place<'a> {
     }
 }
 
-/// How strong a name at arguments is as an operand.
-pub fn call_weight(place: &Place<'_>, name: &str, ts: &[Term]) -> u8
-    ensures { result ≡ weight (shape_of (at_arguments name.now (named_all (scope place.now) (args ts.now)))) }
-{
-    if ts.is_empty() {
-        return ATOM;
-    }
-    if ts.len() != 2 {
-        return APPLICATION;
-    }
-    match sign_named(name) {
-        Some(sign) => sign.level(),
-        None => APPLICATION,
-    }
-}
-
-/// How strong a term is as an operand.
-fn term_weight(place: &Place<'_>, t: &Term) -> u8
-    ensures { result ≡ weight (shape_of (named (scope place.now) (term t.now))) }
-{
-    match t {
-        Term::Free(_) | Term::Bound(_) | Term::Zero => ATOM,
-        Term::Succ(_) => APPLICATION,
-        Term::App(f, ts) => call_weight(place, place.function(*f), ts.as_slice()),
-    }
-}
-
-/// Writes a sign with a blank on each side.
-pub fn write_sign(out: &mut String, sign: Op) -> Result<(), AllocError>
-    ensures { OnOk result (string_bytes out.new ≡ string_bytes out.old ++ (codes " " ++ (op_text (op sign) ++ codes " "))) }
-{
-    out.push_str(" ")?;
-    out.push_str(op_text(sign))?;
-    out.push_str(" ")
-}
-
 /// Writes a term behind what is written.
 #[cycle(write)]
 pub fn write_term(out: &mut String, place: &Place<'_>, t: &Term) -> Result<(), AllocError>
@@ -164,21 +91,6 @@ pub fn write_term(out: &mut String, place: &Place<'_>, t: &Term) -> Result<(), A
             write_operand(out, place, ATOM, t.get())
         }
         Term::App(f, ts) => write_call(out, place, place.function(*f), ts.as_slice()),
-    }
-}
-
-/// Writes a term as an operand, in parentheses where it is weaker than is wanted.
-#[cycle(write)]
-fn write_operand(out: &mut String, place: &Place<'_>, least: u8, t: &Term) -> Result<(), AllocError>
-    requires { 0 < least }
-    ensures { OnOk result (string_bytes out.new ≡ string_bytes out.old ++ operand_text least (shape_of (named (scope place.now) (term t.now)))) }
-{
-    if term_weight(place, t) < least {
-        out.push_str("(")?;
-        write_term(out, place, t)?;
-        out.push_str(")")
-    } else {
-        write_term(out, place, t)
     }
 }
 
@@ -235,6 +147,21 @@ fn write_arguments(out: &mut String, place: &Place<'_>, ts: &[Term]) -> Result<(
     Ok(())
 }
 
+/// Writes a term as an operand, in parentheses where it is weaker than is wanted.
+#[cycle(write)]
+fn write_operand(out: &mut String, place: &Place<'_>, least: u8, t: &Term) -> Result<(), AllocError>
+    requires { 0 < least }
+    ensures { OnOk result (string_bytes out.new ≡ string_bytes out.old ++ operand_text least (shape_of (named (scope place.now) (term t.now)))) }
+{
+    if term_weight(place, t) < least {
+        out.push_str("(")?;
+        write_term(out, place, t)?;
+        out.push_str(")")
+    } else {
+        write_term(out, place, t)
+    }
+}
+
 /// Writes a sign between two terms.
 #[tactic(auto, using(crate::proofs::Weights::table))]
 pub fn write_joined(
@@ -249,4 +176,77 @@ pub fn write_joined(
     write_operand(out, place, sign.left_min(), s)?;
     write_sign(out, sign)?;
     write_operand(out, place, sign.right_min(), t)
+}
+
+/// Writes a sign with a blank on each side.
+pub fn write_sign(out: &mut String, sign: Op) -> Result<(), AllocError>
+    ensures { OnOk result (string_bytes out.new ≡ string_bytes out.old ++ (codes " " ++ (op_text (op sign) ++ codes " "))) }
+{
+    out.push_str(" ")?;
+    out.push_str(op_text(sign))?;
+    out.push_str(" ")
+}
+
+/// How strong a term is as an operand.
+fn term_weight(place: &Place<'_>, t: &Term) -> u8
+    ensures { result ≡ weight (shape_of (named (scope place.now) (term t.now))) }
+{
+    match t {
+        Term::Free(_) | Term::Bound(_) | Term::Zero => ATOM,
+        Term::Succ(_) => APPLICATION,
+        Term::App(f, ts) => call_weight(place, place.function(*f), ts.as_slice()),
+    }
+}
+
+/// How strong a name at arguments is as an operand.
+pub fn call_weight(place: &Place<'_>, name: &str, ts: &[Term]) -> u8
+    ensures { result ≡ weight (shape_of (at_arguments name.now (named_all (scope place.now) (args ts.now)))) }
+{
+    if ts.is_empty() {
+        return ATOM;
+    }
+    if ts.len() != 2 {
+        return APPLICATION;
+    }
+    match sign_named(name) {
+        Some(sign) => sign.level(),
+        None => APPLICATION,
+    }
+}
+
+/// The sign that a function or a predicate has for its name.
+pub fn sign_named(name: &str) -> Option<Op>
+    ensures { option_map op result ≡ option_map sign_of (sign_named name.now) }
+{
+    if name == "+" {
+        Some(Op::Plus)
+    } else if name == "*" {
+        Some(Op::Times)
+    } else if name == "^" {
+        Some(Op::Power)
+    } else if name == "≤" {
+        Some(Op::LessEqual)
+    } else if name == "<" {
+        Some(Op::Less)
+    } else {
+        None
+    }
+}
+
+/// The spelling of a sign.
+pub fn op_text(sign: Op) -> &'static str
+    ensures { result.now ≡ op_text (op sign) }
+{
+    match sign {
+        Op::Implies => "→",
+        Op::Or => "∨",
+        Op::And => "∧",
+        Op::Equal => "=",
+        Op::NotEqual => "≠",
+        Op::LessEqual => "≤",
+        Op::Less => "<",
+        Op::Plus => "+",
+        Op::Times => "*",
+        Op::Power => "^",
+    }
 }
