@@ -1,10 +1,9 @@
 -- The flags of the levels before a level, by a test.
-use Rattle.std.proofs.Common.{◌≡◌, ℕ, zero, suc, ◌+◌, ◌<◌, ◌≤◌, Bool, true, false, ◌&&◌, ◌||◌, eqb, List, [], ◌∷◌, length, refl, sym, ap, ◌∙◌, inl, inr, arith}
+use Rattle.std.proofs.Common.{◌≡◌, ℕ, zero, suc, ◌+◌, ◌<◌, Bool, true, false, ◌&&◌, ◌||◌, eqb, List, [], ◌∷◌, length, refl, sym, ap, ◌∙◌, inl, inr, arith}
 use Rattle.std.specs.Prelude.{◌↔◌, ◌⊎◌, slice_index, IsTrue, nat_lt}
-use Rattle.std.specs.List.{list_any}
 use Rattle.std.proofs.lemmas.Bool.{and_from, and_parts, cases_Bool, cases_lt, eq-eqb, eqb-true, false≢true, lt-ltb, ltb-true, or_cases, or_left, or_right}
 use Rattle.pg_worlds.specs.Flags.{flag, has}
-use Rattle.pg_worlds.specs.Worlds.{Worlds, needs_of, world_count, IsGraph, IsWorldOrder}
+use Rattle.pg_worlds.specs.Worlds.{Worlds, needs_of, IsGraph, IsWorldOrder}
 use Rattle.pg_worlds.specs.Course.{Plan, IsPlan, IsBefore, IsLeastWon, Needs, flags_from, is_before, leads_to, least_won, world_of}
 use Rattle.pg_worlds.proofs.Placing.{has_place}
 use Rattle.pg_worlds.proofs.Reached.{apart, in_range}
