@@ -19,12 +19,7 @@ pub fn show_formula(alloc: Global, a: &Formula, reply: &mut Reply) -> Result<(),
 }
 
 /// Puts a tree's size and height into a reply.
-pub fn show_size(
-    alloc: Global,
-    size: u64,
-    height: u32,
-    reply: &mut Reply,
-) -> Result<(), RowFault> {
+pub fn show_size(alloc: Global, size: u64, height: u32, reply: &mut Reply) -> Result<(), RowFault> {
     let line = format!(in alloc; "size {size}, height {height}")?;
     Ok(reply.line(line.as_str())?)
 }
