@@ -31,21 +31,6 @@ pub enum First {
     SidesDiffer,
 }
 
-/// Whether the kernel accepts the proof by reflexivity of an equation of two numerals, where
-/// nothing is declared.
-fn is_reflexive(alloc: Global, target: &Formula) -> Result<bool, AllocError>
-    requires { IsTrue (is_numeral_equation (formula target.now)) }
-    ensures exact { IfOk result (λ yes. yes ≡ is_reflexive (formula target.now)) }
-    ensures truth { IfOk result (λ yes. IsTrue yes → IsTrueOf no_declarations [] (formula target.now)) }
-{
-    let sig = Signature::new(alloc)?;
-    let theorems = Theorems::new(alloc, &sig)?;
-    match check(alloc, &sig, &theorems, 0, &[], &Proof::Refl, target)? {
-        Verdict::Accepted => Ok(true),
-        Verdict::Refused { .. } => Ok(false),
-    }
-}
-
 /// Runs a script on a goal whose target is an equation of two numerals, with no hypotheses.
 ///
 /// The empty script leaves the goal open. `rfl` closes it exactly where the two sides are the same
@@ -69,5 +54,20 @@ pub fn run_first(alloc: Global, target: &Formula, script: &FirstScript) -> Resul
                 Ok(First::SidesDiffer)
             }
         }
+    }
+}
+
+/// Whether the kernel accepts the proof by reflexivity of an equation of two numerals, where
+/// nothing is declared.
+fn is_reflexive(alloc: Global, target: &Formula) -> Result<bool, AllocError>
+    requires { IsTrue (is_numeral_equation (formula target.now)) }
+    ensures exact { IfOk result (λ yes. yes ≡ is_reflexive (formula target.now)) }
+    ensures truth { IfOk result (λ yes. IsTrue yes → IsTrueOf no_declarations [] (formula target.now)) }
+{
+    let sig = Signature::new(alloc)?;
+    let theorems = Theorems::new(alloc, &sig)?;
+    match check(alloc, &sig, &theorems, 0, &[], &Proof::Refl, target)? {
+        Verdict::Accepted => Ok(true),
+        Verdict::Refused { .. } => Ok(false),
     }
 }
