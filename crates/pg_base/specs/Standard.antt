@@ -1,5 +1,7 @@
 -- The door of the standard streams.
-use Rattle.std.specs.Prelude.{ℕ, Option, Some, None}
+use Rattle.std.specs.Prelude.{Option, Some, None}
+use Rattle.pg_base.specs.Outside.{next_counts}
+use Rattle.pg_base.specs.declared.outside.Counts.{Counts}
 use Rattle.pg_base.specs.declared.outside.Place.{Place}
 use Rattle.pg_base.specs.declared.outside.Place.TheVariants.{Standard, Port}
 use Rattle.pg_base.specs.declared.standard.Pipe.{Pipe}
@@ -9,7 +11,7 @@ abbrev pub IsPort : Place → Type 0
 IsPort Standard = ⊥
 IsPort (Port n) = Unit {0}
 
--- the counts for reads and writes of a connection, or those from before where there is none
-abbrev pub counts_of : {R W : Type 0} → ℕ × ℕ → Option (Pipe R W) → ℕ × ℕ
+-- with the counts of a connection, or as before where there is none
+abbrev pub counts_of : {R W : Type 0} → Counts → Option (Pipe R W) → Counts
 counts_of before None = before
-counts_of before (Some pipe) = (pipe.read_faults, pipe.write_faults)
+counts_of before (Some pipe) = next_counts before pipe.read_faults pipe.write_faults

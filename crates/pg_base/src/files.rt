@@ -116,6 +116,3 @@ impl<R: FileSystem> Files for RealFiles<R> {
         }
     }
 }
-
-#[cfg(test)]
-mod tests;

@@ -71,6 +71,3 @@ pub fn decoded(alloc: Global, text: &str) -> Result<String, AllocError>
     }
     Ok(meant)
 }
-
-#[cfg(test)]
-mod tests;

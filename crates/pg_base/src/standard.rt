@@ -1,11 +1,11 @@
 // Readers and writers of std as a connection, a sink and a door. What they hold is told as far as
 // std tells it, which is nothing for the streams of the system. Each failure is counted.
 ghost use Rattle.std.specs.Prelude.{◌≡◌, ◌<◌, None, Some, Ok, [], length};
-ghost use Rattle.pg_base.specs.Outside.{Asks, HasCause, KeepsRest, Reads, Writes};
+ghost use Rattle.pg_base.specs.Outside.{Asks, HasCause, KeepsRest, Reads, Writes, no_counts};
 ghost use Rattle.pg_base.specs.Calls.{CountsFailures, FailsWhere};
 ghost use Rattle.pg_base.specs.Standard.{IsPort, counts_of};
 
-use crate::outside::{Door, Link, OutFault, Place, Sink, Source};
+use crate::outside::{Counts, Door, Link, OutFault, Place, Sink, Source};
 use crate::schedule::failure;
 use std::alloc::Global;
 use std::io::{Read, Write};
@@ -165,8 +165,8 @@ pub struct StandardDoor<R, W> {
     pipe: Option<Pipe<R, W>>,
     places: Vec<Place>,
     faults: u64,
-    given: (u64, u64),
-    ended: (u64, u64),
+    given: Counts,
+    ended: Counts,
 }
 
 impl<R: Read, W: Write> StandardDoor<R, W> {
@@ -175,14 +175,14 @@ impl<R: Read, W: Write> StandardDoor<R, W> {
         ensures pipe { result.pipe ≡ Some pipe }
         ensures places { result.places.items ≡ [] }
         ensures faults { result.faults ≡ 0 }
-        ensures counts { (result.given ≡ (0, 0)) × (result.ended ≡ (0, 0)) }
+        ensures counts { (result.given ≡ no_counts) × (result.ended ≡ no_counts) }
     {
         StandardDoor {
             pipe: Some(pipe),
             places: Vec::new(alloc),
             faults: 0,
-            given: (0, 0),
-            ended: (0, 0),
+            given: Counts::new(),
+            ended: Counts::new(),
         }
     }
 
@@ -244,15 +244,12 @@ impl<R: Read + Drop, W: Write + Drop> Door for StandardDoor<R, W> {
     {
         let pipe = self.pipe.take();
         if let Some(pipe) = &pipe {
-            self.given = (pipe.read_faults, pipe.write_faults);
+            self.given = self.given.next(pipe.read_faults, pipe.write_faults);
         }
         Ok(pipe)
     }
 
     fn finish(&mut self, conn: Pipe<R, W>) {
-        self.ended = (conn.read_faults, conn.write_faults);
+        self.ended = self.ended.next(conn.read_faults, conn.write_faults);
     }
 }
-
-#[cfg(test)]
-mod tests;

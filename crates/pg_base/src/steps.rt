@@ -39,6 +39,3 @@ impl Steps {
         self.count
     }
 }
-
-#[cfg(test)]
-mod tests;

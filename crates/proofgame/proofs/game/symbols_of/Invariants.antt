@@ -1,7 +1,0 @@
-use Rattle.std.proofs.Common.{◌≡◌, map, take}
-use Rattle.pg_base.specs.Tokens.{word}
-use Rattle.proofgame.specs.Symbols.{symbol_of}
-use Rattle.proofgame.proofs.game.symbols_of.Given as goal
-
-abbrev pub invariant-loop-token : goal.invariant-loop-token
-invariant-loop-token l = l.symbols.items ≡ map symbol_of (map word (take l.token-index l.tokens))
