@@ -44,7 +44,7 @@ pub fn unlocked_row(
 ) -> Result<(), RowFault> {
     let (name, won) = first_word(text);
     let unlocked = unlocked(alloc, session.course(name)?, won)?;
-    Ok(held_lines(alloc, Held::Unlocked(&unlocked), reply)?)
+    Ok(held_lines(alloc, &Held::Unlocked(&unlocked), reply)?)
 }
 
 /// `NAME LEVEL WON ..`: what a player has in the level who has won these.
@@ -60,7 +60,7 @@ pub fn inventory_row(
     let level = level_of(course, level)?;
     let unlocked = unlocked(alloc, course, won)?;
     let available = available(alloc, course, &unlocked, level, session.times)?;
-    Ok(held_lines(alloc, Held::Available(&available), reply)?)
+    Ok(held_lines(alloc, &Held::Available(&available), reply)?)
 }
 
 /// What is unlocked where these levels are won, one after the other.
@@ -103,7 +103,7 @@ pub fn least_row(
     let won = course.least_won(alloc, level)?;
     flags_line(alloc, "won", won.as_slice(), reply)?;
     let least = least(alloc, course, level, session.times)?;
-    Ok(held_lines(alloc, Held::Available(&least), reply)?)
+    Ok(held_lines(alloc, &Held::Available(&least), reply)?)
 }
 
 /// The least that a player has in a level, found so many times.
@@ -123,12 +123,12 @@ fn least(
 }
 
 /// A line of the moves, and one of the theorems.
-fn held_lines(alloc: Global, held: Held<'_>, reply: &mut Reply) -> Result<(), AllocError> {
+fn held_lines(alloc: Global, held: &Held<'_>, reply: &mut Reply) -> Result<(), AllocError> {
     moves_line(alloc, held, reply)?;
     theorems_line(alloc, held, reply)
 }
 
-fn moves_line(alloc: Global, held: Held<'_>, reply: &mut Reply) -> Result<(), AllocError> {
+fn moves_line(alloc: Global, held: &Held<'_>, reply: &mut Reply) -> Result<(), AllocError> {
     let mut line = String::from_str(alloc, "moves")?;
     for name in TacticName::ALL {
         if held.has_move(name) {
@@ -139,7 +139,7 @@ fn moves_line(alloc: Global, held: Held<'_>, reply: &mut Reply) -> Result<(), Al
     reply.line(line.as_str())
 }
 
-fn theorems_line(alloc: Global, held: Held<'_>, reply: &mut Reply) -> Result<(), AllocError> {
+fn theorems_line(alloc: Global, held: &Held<'_>, reply: &mut Reply) -> Result<(), AllocError> {
     let mut line = String::from_str(alloc, "theorems")?;
     for number in 0..THEOREM_LIMIT {
         if held.has_theorem(number) {

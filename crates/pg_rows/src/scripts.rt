@@ -91,12 +91,14 @@ fn block_lines(
     indent: &str,
     reply: &mut Reply,
 ) -> Result<(), AllocError> {
-    for (at, item) in items.iter().enumerate() {
-        if at == SHOWN {
+    let mut shown: usize = 0;
+    for item in items {
+        if shown == SHOWN {
             let line = format!(in alloc; "{indent}.. {} items in all", items.len())?;
             return reply.line(line.as_str());
         }
         item_lines(alloc, item, indent, reply)?;
+        shown = shown.saturating_add(1);
     }
     Ok(())
 }
