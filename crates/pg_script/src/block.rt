@@ -38,7 +38,7 @@ type ReadItem<'t, 'a> = (Item<'a>, usize, &'t [Token<'a>]);
 // The items of a block, the steps that may still stand, and the tokens that are left.
 type ReadItems<'t, 'a> = (Items<Item<'a>>, usize, &'t [Token<'a>]);
 
-// Whether a token is first of its line, at this column or at a smaller one.
+/// Whether a token is first of its line, at this column or at a smaller one.
 fn ends_line(column: u32, token: &Token<'_>) -> bool
     ensures { result ≡ ends_line column (word token.now) }
 {
@@ -51,7 +51,7 @@ fn is_semicolon(token: &Token<'_>) -> bool
     matches!(mark_of(token), Mark::Semicolon)
 }
 
-// How many tokens go on with an item of a block at this column.
+/// How many tokens go on with an item of a block at this column.
 fn line_length(column: u32, tokens: &[Token<'_>]) -> usize
     ensures length { result ≡ line_length column (words tokens.now) }
     ensures within { result ≤ length tokens.now }
@@ -100,7 +100,7 @@ fn steps_of(form: &Form<'_>) -> usize
     }
 }
 
-// A move from its word and the tokens behind it.
+/// A move from its word and the tokens behind it.
 fn move_at<'a>(
     alloc: Global,
     room: usize,
@@ -121,14 +121,14 @@ fn move_at<'a>(
     })
 }
 
-// Whether the block that begins with `first` stands deep enough behind a bullet or a branch.
+/// Whether the block that begins with `first` stands deep enough behind a bullet or a branch.
 fn stands_deeper(column: u32, token: &Token<'_>, first: &Token<'_>) -> bool
     ensures { result ≡ stands_deeper column (word token.now) (word first.now) }
 {
     token.column < first.column && !ends_line(column, first)
 }
 
-// The tokens of the next item behind `;`.
+/// The tokens of the next item behind `;`.
 fn after_semicolon<'t, 'a>(
     column: u32,
     end: u32,
@@ -151,7 +151,7 @@ fn after_semicolon<'t, 'a>(
     Ok(Some(tokens))
 }
 
-// The tokens of the next item behind an item, or None where the block ends.
+/// The tokens of the next item behind an item, or None where the block ends.
 fn next_at<'t, 'a>(
     column: u32,
     end: u32,
@@ -177,7 +177,7 @@ fn next_at<'t, 'a>(
     })
 }
 
-// What is wrong where a block is nested too deep.
+/// What is wrong where a block is nested too deep.
 fn too_deep(whole: Whole, room: usize, tokens: &[Token<'_>]) -> ScriptFault
     ensures { result ≡ too_deep whole.sample whole.end room (words tokens.now) }
 {
@@ -198,7 +198,7 @@ fn too_deep(whole: Whole, room: usize, tokens: &[Token<'_>]) -> ScriptFault
     }
 }
 
-// A move or a hint, whose tokens behind the word end with the line.
+/// A move or a hint, whose tokens behind the word end with the line.
 fn line_at<'t, 'a>(
     alloc: Global,
     whole: Whole,
@@ -221,7 +221,7 @@ fn line_at<'t, 'a>(
     Ok((Item::Move(step), left, rest))
 }
 
-// The block behind a bullet or a branch.
+/// The block behind a bullet or a branch.
 #[cycle(block)]
 fn inner_at<'t, 'a>(
     alloc: Global,
@@ -249,7 +249,7 @@ fn inner_at<'t, 'a>(
     block_at(alloc, whole, budget, room, tokens)
 }
 
-// The item at the front.
+/// The item at the front.
 #[cycle(block)]
 fn item_at<'t, 'a>(
     alloc: Global,
@@ -285,7 +285,7 @@ fn item_at<'t, 'a>(
     }
 }
 
-// The items of a block at this column.
+/// The items of a block at this column.
 #[cycle(block)]
 fn items_at<'t, 'a>(
     alloc: Global,

@@ -12,7 +12,7 @@ use pg_base::{Token, Wanted};
 use sqlite_items::Items;
 use std::alloc::Global;
 
-// How many tokens the argument at the front has, 0 where there is none.
+/// How many tokens the argument at the front has, 0 where there is none.
 fn arg_length(end: u32, depth: u32, tokens: &[Token<'_>]) -> Result<usize, ScriptFault>
     requires { depth ≤ 100 }
     ensures length { result ≡ arg_length end depth (words tokens.now) }
@@ -32,7 +32,7 @@ fn arg_length(end: u32, depth: u32, tokens: &[Token<'_>]) -> Result<usize, Scrip
     }
 }
 
-// Puts the argument at the front, if there is one, behind the others, and gives the tokens that are left.
+/// Puts the argument at the front, if there is one, behind the others, and gives the tokens that are left.
 #[tactic(auto, using(crate::proofs::Arguments::args_turn, crate::proofs::Arguments::args_end, crate::proofs::Arguments::args_fault))]
 fn argument<'t, 'a>(
     alloc: Global,
@@ -54,7 +54,7 @@ fn argument<'t, 'a>(
     Ok(Some(rest))
 }
 
-// Arguments, as many as stand, and the tokens that are left.
+/// Arguments, as many as stand, and the tokens that are left.
 fn arguments<'t, 'a>(
     alloc: Global,
     end: u32,

@@ -15,7 +15,7 @@ use pg_base::{Token, Wanted};
 use sqlite_items::Items;
 use std::alloc::Global;
 
-// This is expected, and something else stands here.
+/// This is expected, and something else stands here.
 fn expected(at: u32, what: Wanted) -> ScriptFault
     ensures { result ≡ Expected at what }
 {
@@ -32,7 +32,7 @@ pub fn expect_end(tokens: &[Token<'_>]) -> Result<(), ScriptFault>
     }
 }
 
-// The name at the front, and the tokens that are left.
+/// The name at the front, and the tokens that are left.
 fn name_at<'t, 'a>(
     end: u32,
     tokens: &'t [Token<'a>],
@@ -48,7 +48,7 @@ fn name_at<'t, 'a>(
     }
 }
 
-// Passes where all tokens are names. Else a name was wanted at the first that is none.
+/// Passes where all tokens are names. Else a name was wanted at the first that is none.
 fn expect_names(tokens: &[Token<'_>]) -> Result<(), ScriptFault>
     ensures { Passes (names_fault (words tokens.now)) result }
 {
@@ -63,7 +63,7 @@ fn expect_names(tokens: &[Token<'_>]) -> Result<(), ScriptFault>
     Ok(())
 }
 
-// Passes where all tokens are names, each of which is a step, and no more than there is room for.
+/// Passes where all tokens are names, each of which is a step, and no more than there is room for.
 fn expect_steps(room: usize, tokens: &[Token<'_>]) -> Result<(), ScriptFault>
     ensures { Passes (steps_fault room (words tokens.now)) result }
 {
@@ -84,7 +84,7 @@ fn expect_steps(room: usize, tokens: &[Token<'_>]) -> Result<(), ScriptFault>
     Ok(())
 }
 
-// Passes where no parenthesis opens within too many others.
+/// Passes where no parenthesis opens within too many others.
 fn expect_shallow(tokens: &[Token<'_>]) -> Result<(), ScriptFault>
     ensures { Passes (deep_fault 0 (words tokens.now)) result }
 {
@@ -102,7 +102,7 @@ fn expect_shallow(tokens: &[Token<'_>]) -> Result<(), ScriptFault>
     Ok(())
 }
 
-// `at h`, or nothing.
+/// `at h`, or nothing.
 fn place_at<'a>(end: u32, tokens: &[Token<'a>]) -> Result<Option<Token<'a>>, ScriptFault>
     ensures { Reads (option_map word) (place_at end (words tokens.now)) result }
 {
@@ -119,7 +119,7 @@ fn place_at<'a>(end: u32, tokens: &[Token<'a>]) -> Result<Option<Token<'a>>, Scr
     }
 }
 
-// The rule at the front, and the tokens that are left.
+/// The rule at the front, and the tokens that are left.
 fn rule_at<'t, 'a>(
     alloc: Global,
     end: u32,
@@ -143,7 +143,7 @@ fn rule_at<'t, 'a>(
     }
 }
 
-// What is wrong where a rule is one step too many.
+/// What is wrong where a rule is one step too many.
 fn no_rule(end: u32, tokens: &[Token<'_>]) -> ScriptFault
     ensures { result ≡ no_rule end (words tokens.now) }
 {
@@ -156,7 +156,7 @@ fn no_rule(end: u32, tokens: &[Token<'_>]) -> ScriptFault
     }
 }
 
-// Whether a rule is followed by another one, and the tokens that are left.
+/// Whether a rule is followed by another one, and the tokens that are left.
 fn rule_end<'t, 'a>(
     end: u32,
     tokens: &'t [Token<'a>],
@@ -173,7 +173,7 @@ fn rule_end<'t, 'a>(
     }
 }
 
-// Rules up to the closing bracket, of which so many may stand, and the tokens that are left.
+/// Rules up to the closing bracket, of which so many may stand, and the tokens that are left.
 #[tactic(auto, using(crate::proofs::Turns::rules_broken))]
 fn rules_at<'t, 'a>(
     alloc: Global,
@@ -214,7 +214,7 @@ fn bracketed_rules<'t, 'a>(
     }
 }
 
-// What is wrong where a term of `use` is one step too many.
+/// What is wrong where a term of `use` is one step too many.
 fn no_term(end: u32, tokens: &[Token<'_>]) -> ScriptFault
     ensures { result ≡ no_term end (words tokens.now) }
 {
@@ -227,7 +227,7 @@ fn no_term(end: u32, tokens: &[Token<'_>]) -> ScriptFault
     }
 }
 
-// Terms up to the end, of which so many may stand.
+/// Terms up to the end, of which so many may stand.
 fn terms_at<'a>(
     alloc: Global,
     room: usize,
@@ -249,7 +249,7 @@ fn terms_at<'a>(
     Err(no_term(end, left.tokens))
 }
 
-// An expression and nothing behind it.
+/// An expression and nothing behind it.
 fn exact_at<'a>(alloc: Global, end: u32, tokens: &[Token<'a>]) -> Result<Expr<'a>, ScriptFault>
     ensures { Reads expression (exact_at end (words tokens.now)) result }
 {
@@ -297,7 +297,7 @@ fn intro_at<'a>(
     Ok(Form::Intro(Items::from_slice(alloc, tokens)?))
 }
 
-// `with` and names, or nothing.
+/// `with` and names, or nothing.
 fn names_after<'a>(alloc: Global, tokens: &[Token<'a>]) -> Result<Items<Token<'a>>, ScriptFault>
     ensures { Reads words (names_after (words tokens.now)) result }
 {
@@ -321,7 +321,7 @@ fn split_at<'a>(alloc: Global, end: u32, tokens: &[Token<'a>]) -> Result<Form<'a
     Ok(Form::Split { name, names })
 }
 
-// What stands behind `have h :`.
+/// What stands behind `have h :`.
 fn have_formula<'a>(
     alloc: Global,
     end: u32,

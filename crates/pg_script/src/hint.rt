@@ -71,7 +71,7 @@ impl Flags {
     }
 }
 
-// The option that this token names, if it wasn't given before.
+/// The option that this token names, if it wasn't given before.
 fn option_of(flags: &Flags, token: &Token<'_>) -> Option<HintOption>
     ensures { result ≡ option_of flags.now (word token.now) }
 {
@@ -155,7 +155,7 @@ fn after_assign<'t, 'a>(end: u32, tokens: &'t [Token<'a>]) -> Result<&'t [Token<
     }
 }
 
-// The options with the one behind an opening parenthesis, and the tokens that are left.
+/// The options with the one behind an opening parenthesis, and the tokens that are left.
 fn flag_at<'t, 'a>(
     flags: Flags,
     end: u32,
@@ -170,7 +170,7 @@ fn flag_at<'t, 'a>(
     Ok((flags.with_option(option, value), rest))
 }
 
-// The options with the one at the front, if there is one, and the tokens that are left.
+/// The options with the one at the front, if there is one, and the tokens that are left.
 fn maybe_flag<'t, 'a>(
     flags: Flags,
     end: u32,
@@ -187,7 +187,7 @@ fn maybe_flag<'t, 'a>(
     }
 }
 
-// The options at the front, each at most once, and the tokens that are left.
+/// The options at the front, each at most once, and the tokens that are left.
 fn flags_at<'t, 'a>(
     end: u32,
     tokens: &'t [Token<'a>],

@@ -25,7 +25,7 @@ const STEPS_LIMIT: usize = 200;
 // How many blocks may be nested, the script's own included.
 const BLOCKS_LIMIT: u32 = 16;
 
-// The script that these tokens are, however many bytes they have.
+/// The script that these tokens are, however many bytes they have.
 #[tactic(auto, unfolding(crate::specs::Scripts::entries_of_tokens))]
 fn script_at<'a>(
     alloc: Global,
@@ -44,7 +44,7 @@ fn script_at<'a>(
     Ok(Script { items })
 }
 
-// The byte behind a token.
+/// The byte behind a token.
 fn token_end(token: &Token<'_>) -> u32
     requires { token_end (word token.now) < 2 ^ 32 }
     ensures { result ≡ token_end (word token.now) }
@@ -56,7 +56,7 @@ fn token_end(token: &Token<'_>) -> u32
     }
 }
 
-// The byte behind the last token, or `from` where there is none.
+/// The byte behind the last token, or `from` where there is none.
 #[tactic(auto, using(crate::proofs::Ends::order_bound))]
 fn last_end(from: u32, end: u32, tokens: &[Token<'_>]) -> u32
     requires { AreInOrder from end (words tokens.now) }
@@ -69,7 +69,7 @@ fn last_end(from: u32, end: u32, tokens: &[Token<'_>]) -> u32
     reached
 }
 
-// Whether the tokens reach over at most 16,384 bytes.
+/// Whether the tokens reach over at most 16,384 bytes.
 fn are_short(tokens: &[Token<'_>], end: u32) -> Result<(), ScriptFault>
     requires { AreTokens end (words tokens.now) }
     ensures { Passes (long_fault (words tokens.now)) result }
@@ -86,7 +86,7 @@ fn are_short(tokens: &[Token<'_>], end: u32) -> Result<(), ScriptFault>
     Ok(())
 }
 
-// The script that these tokens are, if they aren't too long.
+/// The script that these tokens are, if they aren't too long.
 fn items_in<'a>(
     alloc: Global,
     tokens: &[Token<'a>],
@@ -127,7 +127,7 @@ pub fn read_items<'a>(
     items_in(alloc, tokens, end, sample)
 }
 
-// The tokens of a text up to its fault, if it has one.
+/// The tokens of a text up to its fault, if it has one.
 fn tokens_before(
     alloc: Global,
     source: &str,
@@ -148,7 +148,7 @@ fn tokens_before(
     }
 }
 
-// The byte at which a fault of a token stands.
+/// The byte at which a fault of a token stands.
 fn lex_place(fault: LexFault) -> u32
     ensures { result ≡ lex_place fault }
 {
@@ -160,7 +160,7 @@ fn lex_place(fault: LexFault) -> u32
     }
 }
 
-// Whether a fault of a script stands before this byte.
+/// Whether a fault of a script stands before this byte.
 fn stands_before(fault: ScriptFault, place: u32) -> bool
     ensures { result ≡ stands_before fault place }
 {
@@ -171,7 +171,7 @@ fn stands_before(fault: ScriptFault, place: u32) -> bool
     }
 }
 
-// What a text gives whose tokens end with a fault.
+/// What a text gives whose tokens end with a fault.
 fn broken<'a>(
     alloc: Global,
     tokens: &[Token<'a>],
@@ -212,7 +212,7 @@ pub fn read_script<'a>(
     script_in(alloc, source, sample)
 }
 
-// The script that a text is.
+/// The script that a text is.
 fn script_in<'a>(alloc: Global, source: &'a str, sample: bool) -> Result<Script<'a>, ScriptFault>
     ensures exact { Reads script (script_of source.now sample) result }
     ensures spans { length source.now ≤ 16384 → AreTokensOf source.now (lexed source.now).words }

@@ -41,7 +41,7 @@ fn may_end(until: Until) -> bool
     !matches!(until, Until::Close)
 }
 
-// What ends a part that has a token.
+/// What ends a part that has a token.
 fn past_part(until: Until) -> Wanted
     ensures { result ≡ past_part until }
 {
@@ -53,7 +53,7 @@ fn past_part(until: Until) -> Wanted
     }
 }
 
-// Whether a closing parenthesis is the first token.
+/// Whether a closing parenthesis is the first token.
 fn closes_first(tokens: &[Token<'_>]) -> bool
     ensures { result ≡ closes_first (words tokens.now) }
 {
