@@ -2,8 +2,8 @@
 """Holds the pages to the programs: runs the lines of their examples and compares what is printed.
 
 In README.md and docs/*.md an example is an indented block whose lines begin with `$ `: a command, run at the top of the
-checkout, and below it what it prints. A table whose first column is headed `Script` and whose others are `Place` and
-`Expected there` is run too, each script as a row of `pg_rows`. A game that a stored run plays is the shipped one, and
+checkout, and below it what it prints. A table headed `Script`, `Place`, `Expected there` and `Note` is run too, each
+script as a row of `pg_rows`. A game that a stored run plays is the shipped one, and
 each part that `bench/parts.py` times stands in the stored rows. In docs/ROWS.md an example is a row with its answer.
 
 The gate runs this once everything is proved and built. It prints each difference, and then how many examples hold.
@@ -43,17 +43,16 @@ def ran(command):
 
 
 def faults(text):
-    """Yields (script, answer) for each line of the tables of faults of a page."""
-    for table in re.findall(r"(?m)^\| Script \| Place \| Expected there \|\n\|[-|]*\|\n((?:\|.*\|\n)+)", text):
+    """Yields (layer, script, place, what is expected) for each line of the tables of faults of a page."""
+    for table in re.findall(r"(?m)^\| Script \| Place \| Expected there \| Note \|\n\|[-|]*\|\n((?:\|.*\|\n)+)", text):
         for line in table.split("\n")[:-1]:
-            script, place, wanted = re.match(r"\| `(.*?)`(?: [^|]*)? \| (.*?) \| (.*) \|$", line).groups()
-            # (what stands behind `: ` or `, since` is the reason)
-            yield script, int(re.match(r"\d+", place)[0]), re.split(r": |, since", wanted)[0]
+            script, place, wanted, note = re.match(r"\| `(.*?)`(?: [^|]*)? \| (.*?) \| (.*) \| ?(.*?) ?\|$", line).groups()
+            yield "sample" if note == "in a sample" else "script", script, int(re.match(r"\d+", place)[0]), wanted
 
 
-def told(script):
-    """The line that `pg_rows` answers to a script."""
-    done = subprocess.run([ROWS], input=f"script {script}\n", capture_output=True, text=True, check=False)
+def told(row):
+    """The line that `pg_rows` answers to a row."""
+    done = subprocess.run([ROWS], input=f"{row}\n", capture_output=True, text=True, check=False)
     return done.stdout.split("\n")[1].strip()
 
 
@@ -62,8 +61,8 @@ def differences(page, text):
     for command, wanted in examples(text):
         got = ran(command)
         yield None if got == wanted else f"{page}: `{command}` prints {got}, and not {wanted}"
-    for script, place, wanted in faults(text):
-        got = told(script)
+    for layer, script, place, wanted in faults(text):
+        got = told(f"{layer} {script}")
         is_of_token = wanted == "a token's fault" and not got.startswith("expected")
         is_right = (is_of_token or got.startswith(f"expected {wanted} ")) and re.search(rf"at byte {place}\b", got)
         yield None if is_right else f"{page}: the script `{script}` has `{got}`, and not {wanted} at {place}"
