@@ -47,45 +47,6 @@ impl<R: FileSystem> RealFiles<R> {
     }
 }
 
-const CHUNK: usize = 4096;
-
-// The first `limit + 1` bytes of a reader, or all where it has fewer. No more are taken from it.
-fn front_of<R: Read>(alloc: Global, reader: &mut R, limit: usize) -> Result<Vec<u8>, OutFault>
-    ensures front { IfOk result (λ front. GivesFront (R.remaining reader.old) limit front.items) }
-    ensures length { IfOk result (λ front. vec_len front ≤ limit + 1) }
-    ensures taken { IfOk result (λ front.
-        Consumes (R.remaining reader.old) (R.remaining reader.new) front.items) }
-{
-    let mut front = Vec::new(alloc);
-    let mut chunk = [0u8; CHUNK];
-    while front.len() <= limit {
-        let room = (limit - front.len()).min(CHUNK - 1) + 1;
-        let Ok(count) = reader.read(&mut chunk[..room]) else {
-            return Err(OutFault::Failed);
-        };
-        if count == 0 {
-            break;
-        }
-        front.extend_from_slice(&chunk[..count])?;
-    }
-    Ok(front)
-}
-
-// The first `limit + 1` bytes of the file of this name.
-fn front_of_file<R: FileSystem>(
-    alloc: Global,
-    rt: &R,
-    name: &str,
-    limit: usize,
-) -> Result<Vec<u8>, OutFault>
-    ensures { IfOk result (λ front. vec_len front ≤ limit + 1) }
-{
-    let Ok(mut file) = fs::open(rt, name) else {
-        return Err(OutFault::Failed);
-    };
-    front_of(alloc, &mut file, limit)
-}
-
 impl<R: FileSystem> Files for RealFiles<R> {
     ghost files = { λ _. None };
 
@@ -93,7 +54,7 @@ impl<R: FileSystem> Files for RealFiles<R> {
 
     ghost faults = { λ f. f.faults };
 
-    // The place in the list is taken before the read, so that it isn't the name that wants memory.
+    /// The place in the list is taken before the read, so that it isn't the name that wants memory.
     fn read(&mut self, alloc: Global, name: &str, limit: usize) -> Result<Vec<u8>, OutFault>
         ensures length { IfOk result (λ text. vec_len text ≤ limit + 1) }
         ensures asked { Asks (map string_bytes self.old.asked.items)
@@ -115,4 +76,43 @@ impl<R: FileSystem> Files for RealFiles<R> {
             Err(OutFault::OutOfMemory) => Err(OutFault::OutOfMemory),
         }
     }
+}
+
+/// The first `limit + 1` bytes of the file of this name.
+fn front_of_file<R: FileSystem>(
+    alloc: Global,
+    rt: &R,
+    name: &str,
+    limit: usize,
+) -> Result<Vec<u8>, OutFault>
+    ensures { IfOk result (λ front. vec_len front ≤ limit + 1) }
+{
+    let Ok(mut file) = fs::open(rt, name) else {
+        return Err(OutFault::Failed);
+    };
+    front_of(alloc, &mut file, limit)
+}
+
+const CHUNK: usize = 4096;
+
+/// The first `limit + 1` bytes of a reader, or all where it has fewer. No more are taken from it.
+fn front_of<R: Read>(alloc: Global, reader: &mut R, limit: usize) -> Result<Vec<u8>, OutFault>
+    ensures front { IfOk result (λ front. GivesFront (R.remaining reader.old) limit front.items) }
+    ensures length { IfOk result (λ front. vec_len front ≤ limit + 1) }
+    ensures taken { IfOk result (λ front.
+        Consumes (R.remaining reader.old) (R.remaining reader.new) front.items) }
+{
+    let mut front = Vec::new(alloc);
+    let mut chunk = [0u8; CHUNK];
+    while front.len() <= limit {
+        let room = (limit - front.len()).min(CHUNK - 1) + 1;
+        let Ok(count) = reader.read(&mut chunk[..room]) else {
+            return Err(OutFault::Failed);
+        };
+        if count == 0 {
+            break;
+        }
+        front.extend_from_slice(&chunk[..count])?;
+    }
+    Ok(front)
 }

@@ -2,6 +2,15 @@
 ghost use Rattle.std.specs.Prelude.{◌≡◌};
 ghost use Rattle.pg_base.specs.Reserved.{is_reserved, is_kept_word, is_level_word, is_game_word, is_passed_word};
 
+/// Whether a name is reserved: a word of formulas and scripts, or the word of a game's command. Such
+/// a name names no variable, function, hypothesis or move.
+pub fn is_reserved(text: &str) -> bool
+    ensures { result ≡ is_reserved text.now }
+{
+    is_kept_word(text) || is_game_word(text) || is_level_word(text) || is_passed_word(text)
+}
+
+/// A word of formulas and scripts.
 fn is_kept_word(text: &str) -> bool
     ensures { result ≡ is_kept_word text.now }
 {
@@ -11,6 +20,7 @@ fn is_kept_word(text: &str) -> bool
     )
 }
 
+/// A game's command.
 fn is_game_word(text: &str) -> bool
     ensures { result ≡ is_game_word text.now }
 {
@@ -20,6 +30,7 @@ fn is_game_word(text: &str) -> bool
     )
 }
 
+/// A level's command.
 fn is_level_word(text: &str) -> bool
     ensures { result ≡ is_level_word text.now }
 {
@@ -38,6 +49,7 @@ fn is_level_word(text: &str) -> bool
     )
 }
 
+/// A command that is passed over.
 fn is_passed_word(text: &str) -> bool
     ensures { result ≡ is_passed_word text.now }
 {
@@ -56,12 +68,4 @@ fn is_passed_word(text: &str) -> bool
             | "CoverImage"
             | "MakeGame"
     )
-}
-
-/// Whether a name is reserved: a word of formulas and scripts, or the word of a game's command. Such
-/// a name names no variable, function, hypothesis or move.
-pub fn is_reserved(text: &str) -> bool
-    ensures { result ≡ is_reserved text.now }
-{
-    is_kept_word(text) || is_game_word(text) || is_level_word(text) || is_passed_word(text)
 }

@@ -63,7 +63,7 @@ impl<R: Read, W: Write> Source for Pipe<R, W> {
     ghost read_leaves = { λ old new.
         (new.output ≡ old.output) × (new.write_faults ≡ old.write_faults) };
 
-    // After an error a reader may have written to its slice, so it gets one of its own.
+    /// After an error a reader may have written to its slice, so it gets one of its own.
     fn read(&mut self, into: &mut [u8]) -> Result<usize, OutFault>
         requires { 0 < length into.old }
         ensures bytes { Reads (R.remaining self.old.input) (R.remaining self.new.input)
@@ -218,7 +218,7 @@ impl<R: Read + Drop, W: Write + Drop> Door for StandardDoor<R, W> {
 
     ghost may_finish = { λ _. Unit {0} };
 
-    // A port is no place of this door.
+    /// A port is no place of this door.
     fn start(&mut self, place: Place) -> Result<(), OutFault>
         ensures places { Asks self.old.places.items self.new.places.items result place }
         ensures counts { (self.new.given ≡ self.old.given) × (self.new.ended ≡ self.old.ended) }
