@@ -98,6 +98,8 @@ def main():
     for program in (ROWS, PROGRAM):
         if not os.path.isfile(program):
             sys.exit(f"{program} is not built: run `rt ci` first")
+        # The gate has just proved these sources; what it had kept of an earlier run is older than a fresh clone.
+        os.utime(program)
     found = [*games(), *parts()]
     for page in sorted([f"{TOP}/README.md", *glob.glob(f"{TOP}/docs/*.md")]):
         with open(page, encoding="utf-8") as it:
