@@ -9,6 +9,9 @@ use pg_arith::{DeclareFault, Signature};
 use pg_terms::Name;
 use std::alloc::Global;
 
+/// How many parameters a function of a row may have: more than any declaration takes.
+const MOST_PARAMETERS: usize = 1_000;
+
 /// Answers a row of this layer.
 pub fn row(
     alloc: Global,
@@ -114,10 +117,11 @@ fn function(
     words: RecursionWords<'_>,
 ) -> Result<Result<u16, DeclareFault>, RowFault> {
     let params = names(alloc, words.params)?;
-    let arity = params.len() as u16;
-    if arity == 0 || params.len() != arity as usize || sig.function_count() >= 1_000 {
+    let count = params.len();
+    if count == 0 || count > MOST_PARAMETERS || sig.function_count() >= 1_000 {
         return Err(RowFault::Unread("too many parameters, or functions"));
     }
+    let arity = count as u16;
     let base = tree::term(alloc, words.base)?;
     let step = tree::term(alloc, words.step)?;
     let own = name(alloc, words.name)?;

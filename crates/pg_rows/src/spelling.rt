@@ -47,11 +47,13 @@ fn write_term(out: &mut String, t: &Term) -> Result<(), AllocError> {
 /// Writes terms behind a text, with commas between.
 #[cycle(write)]
 fn write_terms(out: &mut String, ts: &[Term]) -> Result<(), AllocError> {
-    let mut comma = "";
+    let mut is_first = true;
     for t in ts {
-        out.push_str(comma)?;
+        if !is_first {
+            out.push(',')?;
+        }
         write_term(out, t)?;
-        comma = ",";
+        is_first = false;
     }
     Ok(())
 }
