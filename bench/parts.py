@@ -2,10 +2,11 @@
 """Times the parts of the product whose speed matters, by the rows of `pg_rows` (docs/ROWS.md), and prints each time.
 
 A part is a row of a size, behind the rows that it needs. The program does it N times in one run and 2N times in another; the
-difference, by N, is the time of one: the start of the program and the reading of its rows fall out. The time of a run
-is the processor time that it used, and of several runs the least counts. A ratio is that to the size on the line
-above, the half of it: near 2 says that the time grows in line with the size. The stack is the least limit, as `ulimit -s`
-sets it, in steps of 16 KiB, under which the program ends well.
+difference, by N, is the time of one: the start of the program and the reading of its rows fall out. A part that takes
+no time to speak of is done a million times at most; a loop whose turns are all the same work may be taken away by the
+compiler. The time of a run is the processor time that it used, and of several runs the least counts. A ratio is that to
+the size on the line above, the half of it: near 2 says that the time grows in line with the size. The stack is the least
+limit, as `ulimit -s` sets it, in steps of 16 KiB, under which the program ends well.
 
     bench/parts.py             all parts, once the program is built (`cd crates/pg_rows && rt run`)
     bench/parts.py WORD ..     the parts whose names begin with one of the words
@@ -22,6 +23,7 @@ TOP = os.path.dirname(os.path.dirname(os.path.realpath(__file__)))
 PROGRAM = os.path.join(TOP, "crates/pg_rows/out/pg_rows")
 RUNS = 5
 LONG_ENOUGH = 0.1
+MOST_TIMES = 2**20
 MOST_STACK = 65536
 MOVES = "rfl rw induction intro exact apply cases left right constructor use symm exfalso have revert by_cases".split()
 
@@ -205,7 +207,7 @@ def cost(rows, name):
     """The time of a part done once, in milliseconds."""
     times = 1
     spent, done = ran(rows, times)
-    while spent < LONG_ENOUGH and done.returncode == 0:
+    while spent < LONG_ENOUGH and done.returncode == 0 and times < MOST_TIMES:
         times *= 2
         spent, done = ran(rows, times)
     if done.returncode != 0:
