@@ -8,7 +8,7 @@ use std::alloc::{AllocError, Global};
 use std::marker::Model;
 
 /// A function by primitive recursion on the last of its parameters.
-#[derive(Debug, Drop)]
+#[derive(Drop)]
 pub struct Recursion {
     /// The name of the function.
     pub name: Name,
@@ -27,7 +27,7 @@ pub struct Recursion {
 }
 
 /// A name for a closed term.
-#[derive(Debug, Drop)]
+#[derive(Drop)]
 pub struct Constant {
     /// The name of the constant.
     pub name: Name,
@@ -38,7 +38,7 @@ pub struct Constant {
 }
 
 /// A function or a constant.
-#[derive(Debug, Drop)]
+#[derive(Drop)]
 pub enum Function {
     /// A function of one or more arguments.
     Recursive(Recursion),
@@ -47,7 +47,7 @@ pub enum Function {
 }
 
 /// A predicate: its body is over its arguments as free variables.
-#[derive(Debug, Drop)]
+#[derive(Drop)]
 pub struct Predicate {
     /// The name of the predicate.
     pub name: Name,
@@ -61,7 +61,7 @@ pub struct Predicate {
 
 /// What is declared: functions and constants in one order, predicates in another. A contract sees
 /// both lists; `declarations` of them is what they say, and `signature` the same without names.
-#[derive(Debug, Drop)]
+#[derive(Drop)]
 pub struct Signature {
     pub(crate) functions: Items<Function>,
     pub(crate) predicates: Items<Predicate>,

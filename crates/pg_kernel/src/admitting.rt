@@ -24,7 +24,7 @@ use std::marker::Model;
 /// A goal and a proof of it that the kernel accepted in the empty context: no variables and no
 /// hypotheses. It is given by `admit` alone, and is not copied. A contract sees it as the goal and
 /// the proof.
-#[derive(Debug, Drop)]
+#[derive(Drop)]
 pub struct Checked {
     goal: Boxed<Formula>,
     proof: Boxed<Proof>,

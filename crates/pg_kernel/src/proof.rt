@@ -5,7 +5,7 @@ use sqlite_items::Boxed;
 /// rule, then the proofs of its premises, in the order of the table "Rules" of docs/LOGIC.md.
 ///
 /// A body is a formula with at most one loose bound variable, `Bound(0)` at its root.
-#[derive(Debug, Drop)]
+#[derive(Drop)]
 pub enum Proof {
     /// The hypothesis of this number.
     Hyp(u32),

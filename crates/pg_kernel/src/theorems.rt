@@ -13,7 +13,7 @@ use std::marker::Model;
 
 /// The theorems that a proof may name, by number: the axioms of a signature, and what was put
 /// after them. A contract sees it as the list of their formulas.
-#[derive(Debug, Drop)]
+#[derive(Drop)]
 pub struct Theorems {
     formulas: Items<Formula>,
 }

@@ -11,7 +11,7 @@ use std::alloc::{AllocError, Global};
 use std::mem;
 
 /// A course under its name.
-#[derive(Debug, Drop)]
+#[derive(Drop)]
 pub struct NamedCourse {
     pub name: String,
     pub course: Course,

@@ -5,7 +5,7 @@ use crate::fault::RowFault;
 const MORE_DIGITS: u8 = 10;
 
 /// What is left of a tree's text.
-#[derive(Debug, Drop)]
+#[derive(Drop)]
 pub struct Cursor<'a> {
     rest: &'a str,
 }

@@ -5,7 +5,7 @@ use pg_worlds::{Graph, LevelItems, TacticName};
 use std::alloc::{AllocError, Global};
 
 /// Worlds with their names, and the levels that rows have put behind them. A world's number is its place.
-#[derive(Debug, Drop)]
+#[derive(Drop)]
 pub struct Draft {
     names: Vec<String>,
     /// How many levels each world is said to have.
@@ -16,7 +16,7 @@ pub struct Draft {
 }
 
 /// Which of a level's lists a word of its row goes on.
-#[derive(Clone, Copy, Debug)]
+#[derive(Clone, Copy)]
 enum Part {
     Own,
     New,

@@ -9,7 +9,7 @@ const LINE_LIMIT: usize = 400;
 const FRONT: usize = 60;
 
 /// The lines behind a row.
-#[derive(Debug, Drop)]
+#[derive(Drop)]
 pub struct Reply {
     lines: String,
 }

@@ -1,7 +1,7 @@
 // The words of a row.
 
 /// A row: the word of a layer, and what stands behind it.
-#[derive(Clone, Copy, Debug)]
+#[derive(Clone, Copy)]
 pub struct Row<'a> {
     pub layer: &'a str,
     pub rest: &'a str,

@@ -9,7 +9,7 @@ use pg_worlds::Course;
 use std::alloc::{AllocError, Global};
 
 /// A signature under its name, with the names of its free variables and its theorems.
-#[derive(Debug, Drop)]
+#[derive(Drop)]
 pub struct Game {
     pub name: String,
     pub signature: Signature,
@@ -26,7 +26,7 @@ impl Game {
 }
 
 /// What rows have declared for the rows behind them.
-#[derive(Debug, Drop)]
+#[derive(Drop)]
 pub struct Session {
     alloc: Global,
     /// How often a row's work is done, so that it can be timed.

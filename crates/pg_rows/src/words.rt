@@ -5,7 +5,7 @@ use pg_terms::Name;
 use std::alloc::Global;
 
 /// The words of a row that are still to come, with one blank between.
-#[derive(Debug, Drop)]
+#[derive(Drop)]
 pub struct Words<'a> {
     rest: &'a str,
 }

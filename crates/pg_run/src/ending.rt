@@ -9,7 +9,7 @@ use pg_terms::{Formula, Term};
 use std::alloc::{AllocError, Global};
 
 /// How a run ends ("Statuses" in docs/COMMAND-LINE.md).
-#[derive(Debug, Drop)]
+#[derive(Drop)]
 pub enum Ending<'a> {
     /// The words are no command.
     Words,

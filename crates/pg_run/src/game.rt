@@ -28,7 +28,7 @@ pub enum Sample {
 }
 
 /// A one-level game ("One-level games" in docs/GAME-TEXT.md).
-#[derive(Debug, Drop)]
+#[derive(Drop)]
 pub struct Game {
     pub target: Target,
     pub sample: Sample,

@@ -9,7 +9,7 @@ use sqlite_items::Boxed;
 use std::alloc::{AllocError, Global};
 
 /// A term over `0` and `succ`.
-#[derive(Debug, Drop)]
+#[derive(Drop)]
 pub struct Numeral {
     pub term: Boxed<Term>,
     ghost numeral: { IsTrue (is_numeral (view.term term)) },
@@ -36,7 +36,7 @@ impl Numeral {
 }
 
 /// The target of a one-level game: an equation of two numerals.
-#[derive(Debug, Drop)]
+#[derive(Drop)]
 pub struct Target {
     pub formula: Boxed<Formula>,
     ghost numerals: { IsTrue (is_numeral_equation (view.formula formula)) },

@@ -3,13 +3,13 @@ use pg_base::Token;
 use sqlite_items::Items;
 
 /// A script: the items of its own block, in order.
-#[derive(Debug, Drop)]
+#[derive(Drop)]
 pub struct Script<'a> {
     pub items: Items<Item<'a>>,
 }
 
 /// An item of a block.
-#[derive(Debug, Drop)]
+#[derive(Drop)]
 pub enum Item<'a> {
     /// A move.
     Move(MoveItem<'a>),
@@ -22,7 +22,7 @@ pub enum Item<'a> {
 }
 
 /// A move.
-#[derive(Debug, Drop)]
+#[derive(Drop)]
 pub struct MoveItem<'a> {
     /// The byte at which the move's word begins.
     pub at: u32,
@@ -32,7 +32,7 @@ pub struct MoveItem<'a> {
 }
 
 /// What stands behind a move's word, by the word.
-#[derive(Debug, Drop)]
+#[derive(Drop)]
 pub enum Form<'a> {
     /// `rfl`, `left`, `right`, `constructor`, `exfalso`: nothing.
     Plain,
@@ -77,14 +77,14 @@ pub enum Form<'a> {
 }
 
 /// A rule of `rw`: `e`, or `← e`, which rewrites backwards.
-#[derive(Debug, Drop)]
+#[derive(Drop)]
 pub struct RwRule<'a> {
     pub back: bool,
     pub expr: Expr<'a>,
 }
 
 /// An expression: a name that isn't reserved, and its arguments. Parentheses around it are left out.
-#[derive(Debug, Drop)]
+#[derive(Drop)]
 pub struct Expr<'a> {
     pub name: Token<'a>,
     pub args: Items<Piece<'a>>,
@@ -92,7 +92,7 @@ pub struct Expr<'a> {
 
 /// At least one token, whose parentheses match. A piece is read as a term, a formula or an
 /// expression only when its part of a move runs.
-#[derive(Debug, Drop)]
+#[derive(Drop)]
 pub struct Piece<'a> {
     pub tokens: Items<Token<'a>>,
     /// The byte at which the text's next token begins, or else the text's length in bytes.

@@ -56,21 +56,21 @@ pub struct Word<'a> {
 }
 
 /// One name or more.
-#[derive(Debug, Drop)]
+#[derive(Drop)]
 pub struct Group<'a> {
     pub first: Word<'a>,
     pub others: Items<Word<'a>>,
 }
 
 /// A group in parentheses, with the byte at which it opens.
-#[derive(Debug, Drop)]
+#[derive(Drop)]
 pub struct Bracket<'a> {
     pub at: u32,
     pub names: Group<'a>,
 }
 
 /// The names of a quantifier.
-#[derive(Debug, Drop)]
+#[derive(Drop)]
 pub enum Binders<'a> {
     /// `x y`
     Plain(Group<'a>),
@@ -82,7 +82,7 @@ pub enum Binders<'a> {
 
 /// A shape: how the tokens of a term or formula hang together by the strengths of signs. A number
 /// is the byte at which the sign, the word or the opening parenthesis stands.
-#[derive(Debug, Drop)]
+#[derive(Drop)]
 pub enum Shape<'a> {
     /// A name.
     Named(Word<'a>),

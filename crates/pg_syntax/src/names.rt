@@ -2,7 +2,7 @@
 use pg_terms::Name;
 
 /// The names of the free variables, by number; `None` is a dead one.
-#[derive(Debug, Drop)]
+#[derive(Drop)]
 pub struct Names {
     pub vars: Vec<Option<Name>>,
 }

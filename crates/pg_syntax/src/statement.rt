@@ -9,7 +9,7 @@ use sqlite_items::Boxed;
 use std::alloc::{AllocError, Global};
 
 /// A variable or a hypothesis of a statement, with its name.
-#[derive(Debug, Drop)]
+#[derive(Drop)]
 pub enum Binder {
     /// A variable. The first one is `Free(0)` of what comes after it, the next `Free(1)`, and so on.
     Var(Name),
@@ -18,7 +18,7 @@ pub enum Binder {
 }
 
 /// A statement: binders, and what is claimed under them.
-#[derive(Debug, Drop)]
+#[derive(Drop)]
 pub struct Statement {
     pub binders: Vec<Binder>,
     pub target: Formula,

@@ -21,7 +21,7 @@ pub enum FirstScript {
 }
 
 /// How the run of a script ends.
-#[derive(Debug, Drop)]
+#[derive(Drop)]
 pub enum First {
     /// The goal is closed, by this proof.
     Closed(Proof),
