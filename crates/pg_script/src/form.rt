@@ -249,8 +249,13 @@ fn terms_at<'a>(
     Err(no_term(end, left.tokens))
 }
 
-/// An expression and nothing behind it.
-fn exact_at<'a>(alloc: Global, end: u32, tokens: &[Token<'a>]) -> Result<Expr<'a>, ScriptFault>
+/// The expression that these tokens are, with nothing behind it. The next token begins at the byte
+/// `end`. Where they are none it is their first fault, as in a script. Want of memory is `OutOfMemory`.
+pub fn read_expression<'a>(
+    alloc: Global,
+    tokens: &[Token<'a>],
+    end: u32,
+) -> Result<Expr<'a>, ScriptFault>
     ensures { Reads expression (exact_at end (words tokens.now)) result }
 {
     let (expr, rest) = expr_at(alloc, end, 0, tokens)?;
@@ -333,7 +338,7 @@ fn have_formula<'a>(
     let (formula, rest) = piece_until(alloc, Wanted::Formula, Until::Assign, end, tokens)?;
     let expr = match split_first(rest) {
         None => None,
-        Some((_, behind)) => Some(exact_at(alloc, end, behind)?),
+        Some((_, behind)) => Some(read_expression(alloc, behind, end)?),
     };
     Ok(Form::Have {
         name,
@@ -358,7 +363,7 @@ fn have_of<'a>(
         Mark::Assign => Ok(Form::Have {
             name,
             formula: None,
-            expr: Some(exact_at(alloc, end, rest)?),
+            expr: Some(read_expression(alloc, rest, end)?),
         }),
         _ => Err(expected(token.at, Wanted::ColonOrAssign)),
     }
@@ -400,7 +405,7 @@ pub fn form_at<'a>(
             expect_end(tokens)?;
             Ok(Form::Plain)
         }
-        Head::Exact => Ok(Form::Exact(exact_at(alloc, end, tokens)?)),
+        Head::Exact => Ok(Form::Exact(read_expression(alloc, tokens, end)?)),
         Head::Intro => intro_at(alloc, room, end, tokens),
         Head::Apply => apply_at(alloc, end, tokens),
         Head::Rw => rewrite_at(alloc, room, end, tokens),

@@ -14,6 +14,7 @@ mod script;
 mod span;
 
 pub use fault::ScriptFault;
+pub use form::read_expression;
 pub use item::{Expr, Form, HintItem, Item, MoveItem, Piece, RwRule, Script};
 pub use laws::{expression_law, hint_law, move_law};
 pub use script::{read_items, read_script};

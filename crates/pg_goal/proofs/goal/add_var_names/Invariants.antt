@@ -1,0 +1,8 @@
+use Rattle.std.proofs.Common.{◌≡◌, ◌++◌, drop, map}
+use Rattle.pg_spelling.specs.Named.{live}
+use Rattle.pg_moves.specs.Goals.{var_name}
+use Rattle.pg_goal.specs.View.{var_of}
+use Rattle.pg_goal.proofs.goal.add_var_names.Given as goal
+
+abbrev pub invariant-loop-var : goal.invariant-loop-var
+invariant-loop-var l = l.names ++ live (map var_name (map var_of (drop l.var-index l.vars))) ≡ l.initial.names ++ live (map var_name (map var_of l.vars))
