@@ -1,2 +1,7 @@
 pub mod Dead
 pub mod Names
+pub mod Sizes
+pub mod Held
+pub mod Small
+pub mod Arguments
+pub mod Inner

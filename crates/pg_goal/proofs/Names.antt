@@ -1,16 +1,14 @@
 -- A name is free exactly where it stays as it is when made fresh.
-use Rattle.std.proofs.Common.{◌≡◌, ◌≤◌, Bool, true, false, List, [], ◌∷◌, length, refl, sym, ap, ◌∙◌, arith}
-use Rattle.std.specs.Prelude.{Ok, Err, if◌then◌else◌, slice_index_or}
+use Rattle.std.proofs.Common.{◌≡◌, Bool, true, false, List, refl, sym, ap, ◌∙◌}
+use Rattle.std.specs.Prelude.{Ok, Err, if◌then◌else◌}
 use Rattle.std.proofs.lemmas.Bool.{true≢false}
 use Rattle.std.specs.Str.{bytes_eq}
-use Rattle.pg_base.specs.declared.token.Token.{Token}
-use Rattle.pg_base.specs.Tokens.{Word, word}
-use Rattle.pg_script.specs.View.{words}
+use Rattle.pg_base.specs.Tokens.{Word}
 use Rattle.pg_logic.specs.Declarations.{Name}
 use Rattle.pg_spelling.specs.Fresh.{is_taken, IsFresh}
 use Rattle.pg_spelling.proofs.Places.{same}
 use Rattle.pg_moves.specs.Causes.{NameTaken}
-use Rattle.pg_moves.specs.Lookup.{Lookup, kept_names, given_name, new_name}
+use Rattle.pg_moves.specs.Lookup.{Lookup, kept_names, given_name}
 
 pub free_stays : (names : List Name) (x made : Name) → IsFresh names x made → made ≡ x → is_taken names x ≡ false
 free_stays names x made f e = ap (is_taken names) (sym e) ∙ f.free
@@ -28,8 +26,3 @@ pub taken_given : (l : Lookup) (used : List Name) (w : Word) (x made a b : Name)
 taken_given l used w x made a b e f from to other =
     ap (λ y. if is_taken (kept_names l used) y then Err (NameTaken y) else Ok y) (sym e)
     ∙ ap (λ b. if b then Err (NameTaken x) else Ok x) (taken-or (kept_names l used) x made (is_taken (kept_names l used) x) refl f (differ made x a b from to other))
-
--- the first of the given names counts
-pub first_given : (l : Lookup) (used : List Name) (ts : List Token) (default : Name) (d : Token) → 1 ≤ length ts → new_name l used (words ts) default ≡ given_name l used (word (slice_index_or ts 0 d))
-first_given l used [] default d h = absurd (omega arith)
-first_given l used (t ∷ ts) default d h = refl

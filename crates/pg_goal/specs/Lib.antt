@@ -1,2 +1,5 @@
 pub mod View
 pub mod Answers
+pub mod Conditions
+pub mod Places
+pub mod Sizes

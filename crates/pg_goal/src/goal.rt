@@ -1,12 +1,12 @@
 // Goals.
-ghost use Rattle.std.specs.Prelude.{◌≡◌, ◌<◌, ◌^◌, ◌++◌, length, map, true, false, IfOk, OnOk, IfSome};
+ghost use Rattle.std.specs.Prelude.{◌≡◌, ◌<◌, ◌^◌, ◌++◌, length, map, true, false, IfOk, OnOk};
 ghost use Rattle.pg_terms.specs.View.{formula as formula_in};
 ghost use Rattle.pg_spelling.specs.Named.{live};
-ghost use Rattle.pg_moves.specs.Goals.{var_name, hyp_name, live_names, variable_named, hypothesis_named, aimed, with_var, with_hyp, without_var, without_hyp};
+ghost use Rattle.pg_moves.specs.Goals.{var_name, hyp_name, var_names, live_names, variable_named, hypothesis_named, aimed, with_var, with_hyp, without_var, without_hyp};
 ghost use Rattle.pg_moves.specs.First.{first_vars, first_hyps, first_goal};
 ghost use Rattle.pg_goal.specs.View.{var_of, hyp_of, goal_of};
 
-use pg_syntax::{Binder, Statement};
+use pg_syntax::{Binder, Names, Statement};
 use pg_terms::{Formula, Name};
 use sqlite_items::{Boxed, Items};
 use std::alloc::{AllocError, Global};
@@ -175,6 +175,18 @@ impl Goal {
         Ok(names)
     }
 
+    /// The names of the variables by number, as terms and formulas are read under them: `None` for a dead
+    /// one. It fails only for want of memory.
+    pub fn var_names(&self, alloc: Global) -> Result<Names, AllocError>
+        ensures { IfOk result (λ names. names.vars.items ≡ var_names (goal_of self.now)) }
+    {
+        let mut vars = Vec::new(alloc);
+        for var in self.vars.as_slice() {
+            vars.push(var_name(alloc, var)?)?;
+        }
+        Ok(Names { vars })
+    }
+
     /// The number of the live variable of this name, if there is one. Takes no memory.
     pub fn variable_named(&self, name: &str) -> Option<u32>
         requires { length self.now.vars < 2 ^ 32 }
@@ -204,6 +216,16 @@ impl Goal {
         }
         None
     }
+}
+
+/// The name of a live variable.
+fn var_name(alloc: Global, var: &Var) -> Result<Option<Name>, AllocError>
+    ensures { IfOk result (λ name. name ≡ var_name (var_of var.now)) }
+{
+    if !var.live {
+        return Ok(None);
+    }
+    Ok(Some(var.name.copied(alloc)?))
 }
 
 /// A dead variable of the same name.

@@ -65,8 +65,8 @@ impl Lookup<'_> {
         None
     }
 
-    /// The name that a script gives, where these are in use. It stays as it is: one that is in use,
-    /// declared or reserved is `NameTaken`.
+    /// The name that a script gives, which is some text, where these are in use. It stays as it is: one
+    /// that is in use, declared or reserved is `NameTaken`. Want of memory is `OutOfMemory`.
     #[tactic(auto, using(crate::proofs::Names::free_stays))]
     pub fn given_name(
         &self,

@@ -42,7 +42,7 @@ expression-long : {end depth : ℕ} {ws next : List Word} {e : Expression} → I
 expression-long (applied depth w ws next args h a) = let q = arguments-long a in omega (arith, q)
 expression-long (enclosed depth o c ws next e ho hc lt i) = let l = expression-long i in let q = length-append ws (c ∷ []) in omega (arith, l, q)
 
-read-long : (p : Part) (e : Expression) → read_expression p ≡ Some e → token_count e.args < length p.tokens
+pub read-long : (p : Part) (e : Expression) → read_expression p ≡ Some e → token_count e.args < length p.tokens
 read-long p e is = expression-long (exact_found p.end p.tokens e (ok (exact_at p.end p.tokens) is))
   where
     ok : {X E : Type 0} {x : X} (r : Result X E) → ok_of r ≡ Some x → r ≡ Ok x
@@ -51,7 +51,7 @@ read-long p e is = expression-long (exact_found p.end p.tokens e (ok (exact_at p
 
 -- ---- so nothing hangs on how deep expressions may be nested
 
-then-same : {X Y E : Type 0} (x : Result X E) (f g : X → Result Y E) → ((a : X) → f a ≡ g a) → and_then x f ≡ and_then x g
+pub then-same : {X Y E : Type 0} (x : Result X E) (f g : X → Result Y E) → ((a : X) → f a ≡ g a) → and_then x f ≡ and_then x g
 then-same (Ok a) f g h = h a
 then-same (Err c) f g h = refl
 
@@ -62,7 +62,7 @@ then-read None c f g h = refl
 module _ (l : Lookup) (g : Goal) where
   module _ (inner other : Expression → Given) where
     -- they give the same of each expression that the argument may be
-    abbrev Alike : Part → Type 0
+    abbrev pub Alike : Part → Type 0
     Alike p = (e : Expression) → read_expression p ≡ Some e → inner e ≡ other e
 
     argument-same : (a : Fm) (p : Part) → Alike p → at_argument l g inner a p ≡ at_argument l g other a p
@@ -77,7 +77,7 @@ module _ (l : Lookup) (g : Goal) where
     argument-same (or a b) p h = refl
     argument-same (ex x a) p h = refl
 
-    arguments-same : (n : ℕ) (ps : List Part) (a : Fm) → token_count ps ≤ n → ((p : Part) → length p.tokens ≤ n → Alike p) → at_arguments l g inner ps a ≡ at_arguments l g other ps a
+    pub arguments-same : (n : ℕ) (ps : List Part) (a : Fm) → token_count ps ≤ n → ((p : Part) → length p.tokens ≤ n → Alike p) → at_arguments l g inner ps a ≡ at_arguments l g other ps a
     arguments-same n [] a le h = refl
     arguments-same n (p ∷ ps) a le h =
         ap (λ x. and_then x (at_arguments l g inner ps)) (argument-same a p (h p (omega (arith, le))))
