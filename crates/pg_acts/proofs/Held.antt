@@ -1,13 +1,18 @@
 -- What a variable takes along when it is reverted.
-use Rattle.std.proofs.Common.{◌≡◌, ℕ, zero, suc, ◌+◌, List, [], ◌∷◌, ◌++◌, length, map, Bool, true, false, ◌&&◌, refl, arith, ap, sym, ◌∙◌, subst, append_assoc}
-use Rattle.std.specs.Prelude.{if◌then◌else◌}
+use Rattle.std.proofs.Common.{◌≡◌, get_or, ℕ, zero, suc, ◌+◌, ◌<◌, List, [], ◌∷◌, ◌++◌, length, map, Bool, true, false, ◌&&◌, refl, arith, ap, sym, ◌∙◌, subst, append_assoc}
+use Rattle.std.specs.Prelude.{All, if◌then◌else◌}
+use Rattle.pg_terms.specs.View.{formula}
+use Rattle.pg_goal.specs.declared.goal.Hyp as rust
+use Rattle.pg_goal.specs.View.{hyp_of}
+use Rattle.pg_moves.specs.Proofs.{hyp_formula as moves_formula}
+use Rattle.pg_acts.specs.Limits.{hyp_formula}
 use Rattle.std.proofs.lemmas.Bool.{and_parts, and_from}
 use Rattle.pg_logic.specs.Tree.{Tm, free, bound, nought, succ, app, Tms, none, arg, Fm, falsum, eq, pred, and, or, imp, all, ex, is_tight, are_tight, is_tight_formula, closed_over_formula}
 use Rattle.pg_logic.specs.Signature.{Signature, Function, fits, fits_term, fits_terms}
-use Rattle.pg_moves.specs.Goals.{Hyp, Goal, hyps_without, without_hyp}
-use Rattle.pg_moves.specs.Holding.{Carried, holds_var, carried_from, without_hyps, imps, before}
+use Rattle.pg_moves.specs.Goals.{Hyp, Goal, aimed, hyps_without, without_hyp, without_var}
+use Rattle.pg_moves.specs.Holding.{Carried, holds_var, carried_from, without_hyps, without_held, imps, before}
 use Rattle.pg_moves.specs.Frames.{Frame, give, gives_all}
-use Rattle.pg_acts.specs.Reverting.{dead, let_go, with_hyps}
+use Rattle.pg_acts.specs.Reverting.{dead, let_go, with_hyps, IsSmall, IsClosable}
 
 -- ---- what fits has no loose bound variable
 
@@ -76,3 +81,25 @@ carried-here k i h hs e = ap (λ b. if b then record { number = i; hyp = h } ∷
 
 pub carried-on : (k i : ℕ) (h : Hyp) (hs : List Hyp) → h.live && holds_var k h.formula ≡ false → carried_from k i (h ∷ hs) ≡ carried_from k (i + 1) hs
 carried-on k i h hs e = ap (λ b. if b then record { number = i; hyp = h } ∷ carried_from k (i + 1) hs else carried_from k (i + 1) hs) e
+
+-- ---- the goal without them
+
+pub held-goal : (g n : Goal) (a : Fm) (k : ℕ) (hs : List Hyp) → n ≡ without_var k (aimed a g) → hs ≡ map (let_go k) g.hyps → with_hyps hs n ≡ aimed a (without_held k g)
+held-goal g n a k hs en eh = ap (with_hyps hs) en ∙ ap (λ hs. with_hyps hs (without_var k (aimed a g))) eh ∙ sym (ap (aimed a) (all-held-die k (without_var k g)))
+
+-- ---- what fits and is small can be closed
+
+hyp-formulas : (hs : List rust.Hyp) → map moves_formula (map hyp_of hs) ≡ map hyp_formula hs
+hyp-formulas [] = refl
+hyp-formulas (h ∷ hs) = ap (λ l. formula h.formula ∷ l) (hyp-formulas hs)
+
+pub closable : (s : Signature) (n : ℕ) (a : Fm) → fits s n 0 a ≡ true → IsSmall a → IsClosable a
+closable s n a f small = record { small = small; tight = fits-tight s n 0 a f }
+
+pub all-closable : (s : Signature) (n : ℕ) (hs : List rust.Hyp) → All (λ a. fits s n 0 a ≡ true) (map moves_formula (map hyp_of hs)) → All IsSmall (map hyp_formula hs) → All IsClosable (map hyp_formula hs)
+all-closable s n hs f small = λ k d lt. closable s n _ (subst (All (λ a. fits s n 0 a ≡ true)) (hyp-formulas hs) f k d lt) (small k d lt)
+
+pub closable-at : (hs : List rust.Hyp) (i : ℕ) (h : rust.Hyp) → All IsClosable (map hyp_formula hs) → i < length hs → h ≡ get_or hs i h → IsClosable (formula h.formula)
+closable-at [] i h each lt e = absurd (omega arith)
+closable-at (x ∷ hs) zero h each lt e = subst (λ (h : rust.Hyp). IsClosable (formula h.formula)) (sym e) (each 0 (formula h.formula) (omega arith))
+closable-at (x ∷ hs) (suc i) h each lt e = closable-at hs i h (λ k d l. each (suc k) d (omega arith)) (omega arith) e

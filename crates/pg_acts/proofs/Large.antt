@@ -1,5 +1,5 @@
 -- The first measure that is over its limit, part by part.
-use Rattle.std.proofs.Common.{◌≡◌, ℕ, suc, get_or, drop, drop-cons, ◌+◌, ◌-◌, ◌^◌, ◌<◌, ◌≤◌, List, [], ◌∷◌, ◌++◌, length, map, Bool, true, false, Option, Some, None, refl, arith, ap, sym, ◌∙◌, subst, length-append}
+use Rattle.std.proofs.Common.{◌≡◌, ℕ, zero, suc, get_or, drop, drop-cons, ◌+◌, ◌-◌, ◌^◌, ◌<◌, ◌≤◌, List, [], ◌∷◌, ◌++◌, length, map, Bool, true, false, Option, Some, None, refl, arith, ap, sym, ◌∙◌, subst, length-append}
 use Rattle.std.specs.Prelude.{min, sum, flat_map, nat_lt, option_map, if◌then◌else◌}
 use Rattle.std.specs.Option.{option_or}
 use Rattle.std.proofs.lemmas.List.{map-append}
@@ -198,3 +198,28 @@ goes-on a b c e n = e ∙ ap (λ a. option_or a b) (told-none a n)
 pub found-large : (a b c : Option Cause) (x : rust.Cause) → c ≡ option_or a b → Some (cause_of x) ≡ option_map told a → Tells c (Some x)
 found-large None b c x e t = absurd (cc)
 found-large (Some y) b c x e t = t ∙ ap (option_map told) (sym e)
+
+drop-past : {X : Type 0} (xs : List X) (i : ℕ) → length xs ≤ i → drop i xs ≡ []
+drop-past [] zero h = refl
+drop-past [] (suc i) h = refl
+drop-past (x ∷ xs) zero h = absurd (omega arith)
+drop-past (x ∷ xs) (suc i) h = drop-past xs i (omega arith)
+
+-- all is counted
+pub sum-done : {X Y : Type 0} (v : X → Y) (f : Y → ℕ) (xs : List X) (i n m w : ℕ) → length xs ≤ i → n ≤ m → min (n + sum (map f (map v (drop i xs)))) m ≡ w → n ≡ w
+sum-done v f xs i n m w past le e =
+    let z : sum (map f (map v (drop i xs))) ≡ 0 = ap (λ l. sum (map f (map v l))) (drop-past xs i past) in
+    omega arith
+
+many-together : (count n : ℕ) (x : Option rust.Cause) → count ≡ min n (2 ^ 64 - 1) → Tells (over 64 count (TooMany count)) x → Tells (over 64 n (TooMany n)) x
+many-together count n x e t =
+    t ∙ ap (λ k. option_map told (over 64 k (TooMany k))) e
+    ∙ sym (over-if (nat_lt 64 (min n (2 ^ 64 - 1))) (nat_lt 64 (min n (2 ^ 64 - 1))) (TooMany (min (min n (2 ^ 64 - 1)) (2 ^ 32 - 1))) (TooMany (min n (2 ^ 64 - 1))) refl refl)
+    ∙ many-told n
+
+-- a block of the new goals and of the others
+pub large-together : (new rest : List Goal) (count nodes : ℕ) (x y r : Option rust.Cause) → count ≡ min (length rest + length new) (2 ^ 64 - 1) → nodes ≡ min (all_nodes (new ++ rest)) (2 ^ 64 - 1) →
+    Tells (over 64 count (TooMany count)) x → option_map cause_of y ≡ over 65536 nodes (TooLarge State nodes) → r ≡ option_or x y → Tells (first_over (block_measures (new ++ rest))) r
+large-together new rest count nodes x y r ec en ex ey er =
+    let e : count ≡ min (length (new ++ rest)) (2 ^ 64 - 1) = ec ∙ ap (λ n. min n (2 ^ 64 - 1)) (let q = length-append new rest in omega arith) in
+    large-block (new ++ rest) nodes x y r en (many-together count (length (new ++ rest)) x e ex) ey er

@@ -1,6 +1,11 @@
 -- The names of what a hypothesis is taken apart to.
-use Rattle.std.proofs.Common.{◌≡◌, ◌≢◌, ℕ, zero, suc, ◌+◌, ◌<◌, List, [], ◌∷◌, length, map, drop, Option, Some, None, refl, arith, ap, sym, ◌∙◌}
-use Rattle.std.specs.Prelude.{Ok, Err, All, slice_get, option_map, slice_index_or}
+use Rattle.std.proofs.Common.{◌≡◌, subst, ◌≢◌, ℕ, zero, suc, ◌+◌, ◌<◌, List, [], ◌∷◌, length, map, drop, Option, Some, None, refl, arith, ap, sym, ◌∙◌}
+use Rattle.pg_moves.specs.Frames.{Frame}
+use Rattle.pg_acts.specs.declared.cause.ActFault.{ActFault}
+use Rattle.pg_acts.specs.declared.reduction.Reduction.{Reduction}
+use Rattle.pg_acts.specs.Doing.{Makes}
+use Rattle.pg_acts.specs.Named.{second_part}
+use Rattle.std.specs.Prelude.{Result, Ok, Err, All, slice_get, option_map, slice_index_or}
 use Rattle.pg_base.specs.Tokens.{Word, word}
 use Rattle.pg_base.specs.declared.token.Token.{Token}
 use Rattle.pg_script.specs.View.{words}
@@ -36,13 +41,16 @@ rest-texts (t ∷ ts) us e h = λ k d lt q. h (k + 1) d (omega (arith, ap length
     at-rest : (k : ℕ) (d : Token) → slice_index_or (t ∷ ts) (k + 1) d ≡ slice_index_or us k d
     at-rest k d = let s : k + 1 ≡ suc k = omega arith in ap (λ i. slice_index_or (t ∷ ts) i d) s ∙ ap (λ l. slice_index_or l k d) (sym e)
 
-pub both-made : (l : Lookup) (g g1 : Goal) (h : Name) (ts us : List Token) (a b : Fm) (x y : Name) → new_name l (live_names g) (words ts) h ≡ Ok x → g1 ≡ with_hyp x a g → us ≡ drop 1 ts →
-    new_name l (live_names g1) (words us) h ≡ Ok y → both_parts l g h (words ts) a b ≡ Ok (with_hyp y b g1 ∷ [])
-both-made l g g1 h ts us a b x y ex eg eu ey =
-    ap (λ r. and_then r (λ x. and_then (new_name l (live_names (with_hyp x a g)) (drop 1 (words ts)) h) (λ y. Ok (with_hyp y b (with_hyp x a g) ∷ [])))) ex
-    ∙ ap (λ q. and_then (new_name l (live_names q) (drop 1 (words ts)) h) (λ y. Ok (with_hyp y b q ∷ []))) (sym eg)
-    ∙ ap (λ vs. and_then (new_name l (live_names g1) vs h) (λ y. Ok (with_hyp y b g1 ∷ []))) (sym (words-rest ts us eu))
-    ∙ ap (λ r. and_then r (λ y. Ok (with_hyp y b g1 ∷ []))) ey
+-- the first hypothesis, and then the second one
+pub both-second : (l : Lookup) (g g1 : Goal) (h : Name) (ws : List Word) (a b : Fm) (x : Name) (fs : List Frame) (r : Result Reduction ActFault) → new_name l (live_names g) ws h ≡ Ok x → g1 ≡ with_hyp x a g →
+    Makes (second_part l g1 h ws b) fs r → Makes (both_parts l g h ws a b) fs r
+both-second l g g1 h ws a b x fs r ex eg m =
+    subst (λ want. Makes want fs r)
+    (ap (λ q. second_part l q h ws b) eg ∙ sym (ap (λ r. and_then r (λ x. second_part l (with_hyp x a g) h ws b)) ex)) m
+
+pub second-made : (l : Lookup) (g : Goal) (h : Name) (ts us : List Token) (b : Fm) (y : Name) → us ≡ drop 1 ts → new_name l (live_names g) (words us) h ≡ Ok y → second_part l g h (words ts) b ≡ Ok (with_hyp y b g ∷ [])
+second-made l g h ts us b y eu ey =
+    ap (λ vs. and_then (new_name l (live_names g) vs h) (λ y. Ok (with_hyp y b g ∷ []))) (sym (words-rest ts us eu)) ∙ ap (λ r. and_then r (λ y. Ok (with_hyp y b g ∷ []))) ey
 
 pub either-made : (l : Lookup) (g : Goal) (h : Name) (ts us : List Token) (a b : Fm) (x y : Name) → new_name l (live_names g) (words ts) h ≡ Ok x → us ≡ drop 1 ts →
     new_name l (live_names g) (words us) h ≡ Ok y → either_part l g h (words ts) a b ≡ Ok (with_hyp x a g ∷ with_hyp y b g ∷ [])

@@ -1,5 +1,5 @@
 -- How a variable is reverted, and what becomes of the hypotheses that hold it.
-use Rattle.std.specs.Prelude.{ℕ, false, ◌&&◌, ◌<◌, ◌^◌, ◌++◌, List, [], ◌∷◌, IsTrue, if◌then◌else◌}
+use Rattle.std.specs.Prelude.{ℕ, ◌≡◌, true, false, ◌&&◌, ◌<◌, ◌^◌, ◌++◌, List, [], ◌∷◌, if◌then◌else◌}
 use Rattle.pg_logic.specs.Tree.{Fm, free, all, nodes_of, is_tight_formula, closed_over_formula}
 use Rattle.pg_logic.specs.Declarations.{Name}
 use Rattle.pg_logic.specs.Kernel.{hyp, alle}
@@ -26,7 +26,7 @@ IsSmall a = nodes_of a < 2 ^ 32
 -- it has no loose bound variable besides: so it can be closed over a variable
 pub record IsClosable (a : Fm) : Type 0 where
   pub small : nodes_of a < 2 ^ 32
-  pub tight : IsTrue (is_tight_formula 0 a)
+  pub tight : is_tight_formula 0 a ≡ true
 
 -- the frames of `revert x` of variable k, where so many hypotheses stand
 abbrev pub reverting : ℕ → Goal → Name → ℕ → List Frame

@@ -15,7 +15,7 @@ ghost use Rattle.pg_moves.specs.Framing.{cases_frames};
 ghost use Rattle.pg_moves.specs.Goals.{variable_named, with_hyp};
 ghost use Rattle.pg_goal.specs.View.{goal_of, lookup_of};
 ghost use Rattle.pg_acts.specs.Doing.{IsReady, Does, Has, Makes, Yields};
-ghost use Rattle.pg_acts.specs.Named.{found_of};
+ghost use Rattle.pg_acts.specs.Named.{found_of, second_part};
 ghost use Rattle.pg_acts.specs.Opening.{opened_proof};
 ghost use Rattle.pg_acts.specs.View.{always};
 
@@ -147,8 +147,25 @@ fn both_parts(
 {
     let x = new_name(alloc, goal, names, name, lookup)?;
     let between = with_one_more(alloc, goal, x, a)?;
-    let y = new_name(alloc, &between, after_first(names), name, lookup)?;
-    let made = by_both(alloc, &between, y, a, b, d)?;
+    second_part(alloc, &between, name, names, a, b, d, lookup)
+}
+
+/// The second one of two hypotheses, where the first one stands.
+fn second_part(
+    alloc: Global,
+    goal: &Goal,
+    name: &Name,
+    names: &[Token<'_>],
+    a: &Formula,
+    b: &Formula,
+    d: Boxed<Proof>,
+    lookup: &Lookup<'_>,
+) -> Result<Reduction, ActFault>
+    requires { All (λ (t : Token). t.text.now ≢ []) names.now }
+    ensures { Makes (second_part (lookup_of lookup.now) (goal_of goal.now) name.now (words names.now) (formula b.now)) (cases_frames (proof d) (tree.and (formula a.now) (formula b.now))) result }
+{
+    let y = new_name(alloc, goal, after_first(names), name, lookup)?;
+    let made = by_both(alloc, goal, y, a, b, d)?;
     Ok(made)
 }
 

@@ -3,6 +3,7 @@ ghost use Rattle.std.specs.Prelude.{◌≡◌, ◌≢◌, ◌<◌, ◌^◌, ◌+
 ghost use Rattle.pg_base.specs.Tokens.{word};
 ghost use Rattle.pg_logic.specs.Kernel as logic;
 ghost use Rattle.pg_logic.specs.Tree as tree;
+ghost use Rattle.pg_kernel.specs.View.{proof};
 ghost use Rattle.pg_terms.specs.View.{formula};
 ghost use Rattle.pg_moves.specs.Acts as act;
 ghost use Rattle.pg_moves.specs.Assuming as moves;
@@ -160,7 +161,8 @@ fn without_held(
     ensures { IfOk result (λ g. goal_of g ≡ aimed (formula target) (without_held k (goal_of goal.now))) }
 {
     let hyps = released(alloc, goal.hyps.as_slice(), k)?;
-    let mut next = goal.aimed(alloc, target)?.without_var(alloc, k)?;
+    let aimed = goal.aimed(alloc, target)?;
+    let mut next = aimed.without_var(alloc, k)?;
     next.hyps = hyps;
     Ok(next)
 }

@@ -7,7 +7,7 @@ use Rattle.pg_acts.proofs.assuming.symm_at.Goals as goal
 
 pub returns-in-Some : goal.returns-in-Some
 returns-in-Some c =
-    does-symm_at (lookup_of c.args.lookup.now) (goal_of c.args.goal.now) c.requires (word c.args.name.now) (found_of c.in-Some.f) (sym c.in-Some.ensures) c.symmetric_at.result c.symmetric_at.ensures
+    does-symm_at (lookup_of c.args.lookup.now) (goal_of c.args.goal.now) c.requires.ready (word c.args.name.now) (found_of c.in-Some.f) (sym c.in-Some.ensures) c.symmetric_at.result c.symmetric_at.ensures
 
 pub returns-in-None : goal.returns-in-None
 returns-in-None c = unnamed-symm_at (lookup_of c.args.lookup.now) (goal_of c.args.goal.now) (word c.args.name.now) (sym c.in-None.ensures)

@@ -1,17 +1,10 @@
-use Rattle.std.proofs.Common.{ap, sym, ◌∙◌}
-use Rattle.std.specs.Prelude.{Ok}
+use Rattle.pg_script.specs.View.{words}
 use Rattle.pg_terms.specs.View.{formula}
 use Rattle.pg_goal.specs.View.{goal_of, lookup_of}
-use Rattle.pg_acts.proofs.Parts.{rest-texts, both-made}
+use Rattle.pg_acts.proofs.Parts.{both-second}
 use Rattle.pg_acts.proofs.casing.both_parts.Goals as goal
 
-pub new_name-requires-2 : goal.new_name-requires-2
-new_name-requires-2 c = rest-texts c.args.names.now c.after_first.result.now c.after_first.ensures c.requires
-
 pub returns : goal.returns
-returns c = (
-    both-made (lookup_of c.args.lookup.now) (goal_of c.args.goal.now) (goal_of c.in_ok-between.between) c.args.name.now c.args.names.now c.after_first.result.now (formula c.args.a.now) (formula c.args.b.now)
-    c.in_ok-x.x c.in_ok-y.y c.in_ok-x.ensures c.in_ok-between.ensures c.after_first.ensures c.in_ok-y.ensures
-    ∙ ap Ok (sym c.in_ok-made.ensures.0),
-    c.in_ok-made.ensures.1,
-)
+returns c =
+    both-second (lookup_of c.args.lookup.now) (goal_of c.args.goal.now) (goal_of c.in_ok-between.between) c.args.name.now (words c.args.names.now) (formula c.args.a.now) (formula c.args.b.now)
+    c.in_ok-x.x _ c.second_part.result c.in_ok-x.ensures c.in_ok-between.ensures c.second_part.ensures

@@ -13,8 +13,8 @@ pub returns : goal.returns
 returns c =
     let g = goal_of c.args.goal.now in (
       either-made (lookup_of c.args.lookup.now) g c.args.name.now c.args.names.now c.after_first.result.now (formula c.args.a.now) (formula c.args.b.now) c.in_ok-x.x c.in_ok-y.y c.in_ok-x.ensures c.after_first.ensures c.in_ok-y.ensures
-      ∙ ap (λ p. Ok (p ∷ with_hyp c.in_ok-y.y (formula c.args.b.now) g ∷ [])) (sym c.in_ok-first.ensures)
-      ∙ ap (λ q. Ok (goal_of c.in_ok-first.first ∷ q ∷ [])) (sym c.in_ok-second.ensures)
-      ∙ ap Ok (sym c.in_ok-made.ensures.0),
+          ∙ ap (λ p. Ok (p ∷ with_hyp c.in_ok-y.y (formula c.args.b.now) g ∷ [])) (sym c.in_ok-first.ensures)
+          ∙ ap (λ q. Ok (goal_of c.in_ok-first.first ∷ q ∷ [])) (sym c.in_ok-second.ensures)
+          ∙ ap Ok (sym c.in_ok-made.ensures.0),
       c.in_ok-made.ensures.1,
     )

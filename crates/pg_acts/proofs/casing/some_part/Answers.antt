@@ -11,8 +11,8 @@ new_name-requires-2 c = rest-texts c.args.names.now c.after_first.result.now c.a
 
 pub returns : goal.returns
 returns c = (
-    some-made (lookup_of c.args.lookup.now) (goal_of c.args.goal.now) (goal_of c.in_ok-between.between) c.args.name.now c.args.z.now c.args.names.now c.after_first.result.now (formula c.args.a.now)
-    c.in_ok-x.x c.in_ok-y.y c.var_count-newest.result c.in_ok-x.ensures (c.in_ok-between.ensures ∙ ap (λ q. with_var c.in_ok-x.x (goal_of q)) c.in_ok-copied.ensures) c.after_first.ensures c.var_count-newest.ensures c.in_ok-y.ensures
-    ∙ ap Ok (sym c.in_ok-made.ensures.0),
-    c.in_ok-made.ensures.1,
+  some-made (lookup_of c.args.lookup.now) (goal_of c.args.goal.now) (goal_of c.in_ok-between.between) c.args.name.now c.args.z.now c.args.names.now c.after_first.result.now (formula c.args.a.now)
+      c.in_ok-x.x c.in_ok-y.y c.var_count-newest.result c.in_ok-x.ensures (c.in_ok-between.ensures ∙ ap (λ q. with_var c.in_ok-x.x (goal_of q)) c.in_ok-copied.ensures) c.after_first.ensures c.var_count-newest.ensures c.in_ok-y.ensures
+      ∙ ap Ok (sym c.in_ok-made.ensures.0),
+  c.in_ok-made.ensures.1,
 )

@@ -19,7 +19,7 @@ loop-left-preserved c =
     record {
       form = sym (within-step s left (left - 1) a b q e) ∙ c.loop-left.invariant.form;
       way =
-        ap (λ w. map formula w ++ way (left - 1) s b) c.in_ok-push.ensures.ok
-        ∙ ap (λ l. l ++ way (left - 1) s b) (map-append formula c.loop-left.way (c.loop-left.form ∷ []))
-        ∙ way-on s left (left - 1) a b (map formula c.loop-left.way) _ q e c.loop-left.invariant.way;
+          ap (λ w. map formula w ++ way (left - 1) s b) c.in_ok-push-in-Some.ensures.ok
+          ∙ ap (λ l. l ++ way (left - 1) s b) (map-append formula c.loop-left.way (c.loop-left.form ∷ []))
+          ∙ way-on s left (left - 1) a b (map formula c.loop-left.way) _ q e c.loop-left.invariant.way;
     }
