@@ -1,6 +1,7 @@
 pub mod Does
 pub mod Held
 pub mod Justified
+pub mod Known
 pub mod Large
 pub mod Parts
 pub mod Unfolds

@@ -1,4 +1,5 @@
 pub mod Doing
+pub mod Giving
 pub mod Limits
 pub mod Named
 pub mod Opening
