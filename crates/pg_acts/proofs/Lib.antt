@@ -1,0 +1,6 @@
+pub mod Does
+pub mod Held
+pub mod Justified
+pub mod Large
+pub mod Parts
+pub mod Unfolds
