@@ -1,5 +1,5 @@
 -- From the goals and the frames that are made, or the cause, to what the act does.
-use Rattle.std.proofs.Common.{◌≡◌, ℕ, List, [], ◌∷◌, ◌++◌, length, map, Option, Some, None, refl, ap, sym, ◌∙◌, subst}
+use Rattle.std.proofs.Common.{◌≡◌, ℕ, List, [], ◌∷◌, ◌++◌, length, map, Some, None, refl, ap, sym, ◌∙◌, subst}
 use Rattle.std.specs.Prelude.{Result, Ok, Err}
 use Rattle.pg_base.specs.Tokens.{Word}
 use Rattle.pg_logic.specs.Tree.{Tm, Fm, falsum, imp}

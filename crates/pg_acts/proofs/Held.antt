@@ -7,11 +7,10 @@ use Rattle.pg_goal.specs.View.{hyp_of}
 use Rattle.pg_moves.specs.Proofs.{hyp_formula as moves_formula}
 use Rattle.pg_acts.specs.Limits.{hyp_formula}
 use Rattle.std.proofs.lemmas.Bool.{and_parts, and_from}
-use Rattle.pg_logic.specs.Tree.{Tm, free, bound, nought, succ, app, Tms, none, arg, Fm, falsum, eq, pred, and, or, imp, all, ex, is_tight, are_tight, is_tight_formula, closed_over_formula}
+use Rattle.pg_logic.specs.Tree.{Tm, free, bound, nought, succ, app, Tms, none, arg, Fm, falsum, eq, pred, and, or, imp, all, ex, is_tight, are_tight, is_tight_formula}
 use Rattle.pg_logic.specs.Signature.{Signature, Function, fits, fits_term, fits_terms}
-use Rattle.pg_moves.specs.Goals.{Hyp, Goal, aimed, hyps_without, without_hyp, without_var}
-use Rattle.pg_moves.specs.Holding.{Carried, holds_var, carried_from, without_hyps, without_held, imps, before}
-use Rattle.pg_moves.specs.Frames.{Frame, give, gives_all}
+use Rattle.pg_moves.specs.Goals.{Hyp, Goal, aimed, hyps_without, without_var}
+use Rattle.pg_moves.specs.Holding.{holds_var, carried_from, without_hyps, without_held}
 use Rattle.pg_acts.specs.Reverting.{dead, let_go, with_hyps, IsSmall, IsClosable}
 
 -- ---- what fits has no loose bound variable

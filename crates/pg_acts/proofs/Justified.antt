@@ -1,26 +1,22 @@
 -- The frames of each act justify it.
-use Rattle.std.proofs.Common.{◌≡◌, ℕ, ◌+◌, ◌<◌, List, [], ◌∷◌, ◌++◌, ◌&&◌, length, map, true, false, Option, Some, None, refl, arith, ap, sym, ◌∙◌, subst}
-use Rattle.std.specs.Prelude.{Ok, Err, slice_get}
+use Rattle.std.proofs.Common.{◌≡◌, ℕ, List, [], ◌∷◌, ◌++◌, ◌&&◌, length, map, true, false, Some, arith, ap, sym, subst}
+use Rattle.std.specs.Prelude.{Ok, slice_get}
 use Rattle.std.specs.Str.{bytes_eq}
 use Rattle.std.proofs.lemmas.List.{length-map}
 use Rattle.std.proofs.lemmas.List.Quantifiers.{position-Some}
-use Rattle.std.specs.List.{AllByRecursion}
-use Rattle.std.proofs.lemmas.List.Elements.{All-from_recursion}
 use Rattle.pg_base.specs.Tokens.{Word}
 use Rattle.pg_logic.specs.Tree.{Tm, Fm, falsum, imp}
-use Rattle.pg_logic.specs.Signature.{fits, fits_term}
+use Rattle.pg_logic.specs.Signature.{fits}
 use Rattle.pg_logic.specs.Declarations.{signature_of}
 use Rattle.pg_logic.specs.Kernel.{lem, reflexive}
 use Rattle.pg_script.specs.Data.{Part}
 use Rattle.pg_moves.specs.Goals.{Var, Goal, live_names, variable_named, aimed, with_hyp}
 use Rattle.pg_moves.specs.Causes.{WrongArgument}
 use Rattle.pg_moves.specs.Lookup.{Lookup, given_name}
-use Rattle.pg_moves.specs.Acts.{Act, Rfl, Intro, Left, Right, Constructor, Witness, Symm, SymmAt, Exfalso, Assert, ByCases}
 use Rattle.pg_moves.specs.Closing.{head_unfolded, goal_form, reflexivity, intro_of, left_of, right_of, both_of, witness_of, term_there, formula_there}
 use Rattle.pg_moves.specs.Expressions.{read_term, read_formula, begins}
 use Rattle.pg_moves.specs.Assuming.{Found, hypothesis, changed_to, swapped, symmetric, reverted_hyp, reverted_var, cases_of_hyp}
-use Rattle.pg_moves.specs.Steps.{new_goals}
-use Rattle.pg_moves.specs.Proofs.{Sequent, hyp_formula, sequent}
+use Rattle.pg_moves.specs.Proofs.{hyp_formula, sequent}
 use Rattle.pg_moves.specs.Frames.{Frame, whole, under_orl, under_orr, under_fale, under_exi, pair, cut, give, lemma, split}
 use Rattle.pg_moves.specs.Framing.{intro_frame, symm_frames, swapped_proof, cases_frames}
 use Rattle.pg_moves.specs.Laws.{Justifies}

@@ -1,8 +1,7 @@
 -- The first measure that is over its limit, part by part.
-use Rattle.std.proofs.Common.{◌≡◌, ℕ, zero, suc, get_or, drop, drop-cons, ◌+◌, ◌-◌, ◌^◌, ◌<◌, ◌≤◌, List, [], ◌∷◌, ◌++◌, length, map, Bool, true, false, Option, Some, None, refl, arith, ap, sym, ◌∙◌, subst, length-append}
+use Rattle.std.proofs.Common.{◌≡◌, ℕ, zero, suc, get_or, drop, drop-cons, ◌+◌, ◌-◌, ◌^◌, ◌<◌, ◌≤◌, List, [], ◌∷◌, ◌++◌, length, map, Bool, true, false, Option, Some, None, refl, arith, ap, sym, ◌∙◌, length-append}
 use Rattle.std.specs.Prelude.{min, sum, flat_map, nat_lt, option_map, if◌then◌else◌}
 use Rattle.std.specs.Option.{option_or}
-use Rattle.std.proofs.lemmas.List.{map-append}
 use Rattle.std.proofs.lemmas.Bool.Decides.{nat_tests}
 use Rattle.std.proofs.lemmas.Grind.{flat_map-append}
 use Rattle.std.proofs.lemmas.List.Concat.{flat_map-cons}
@@ -10,14 +9,13 @@ use Rattle.std.proofs.lemmas.List.Sums.{sum-map, sum_by-cons, sum_by-append}
 use Rattle.std.specs.List.{sum_by}
 use Rattle.pg_logic.specs.Tree.{Fm, nodes_of, height_of}
 use Rattle.pg_moves.specs.Goals.{Goal, Hyp}
-use Rattle.pg_moves.specs.Causes.{Cause, Measure, Nodes, Height, Variables, Hypotheses, State, TooLarge, TooMany}
+use Rattle.pg_moves.specs.Causes.{Cause, Nodes, Height, Variables, Hypotheses, State, TooLarge, TooMany}
 use Rattle.pg_moves.specs.Measures.{over, first_over, formulas, formula_measures, live_vars, live_hyps, goal_measures, goal_nodes, all_nodes, block_measures, first_large}
 use Rattle.pg_terms.specs.View.{formula}
-use Rattle.pg_goal.specs.declared.goal.Goal as goals
 use Rattle.pg_goal.specs.declared.goal.Hyp as hyps
-use Rattle.pg_goal.specs.View.{goal_of, hyp_of}
+use Rattle.pg_goal.specs.View.{hyp_of}
 use Rattle.pg_acts.specs.declared.cause.Cause as rust
-use Rattle.pg_acts.specs.Limits.{told, Tells, hyp_formula, AreOthers}
+use Rattle.pg_acts.specs.Limits.{told, Tells, hyp_formula}
 use Rattle.pg_acts.specs.View.{cause_of}
 
 first-cons : (c : Option Cause) (cs : List (Option Cause)) → first_over (c ∷ cs) ≡ option_or c (first_over cs)

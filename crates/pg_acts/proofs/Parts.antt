@@ -1,11 +1,11 @@
 -- The names of what a hypothesis is taken apart to.
-use Rattle.std.proofs.Common.{◌≡◌, subst, ◌≢◌, ℕ, zero, suc, ◌+◌, ◌<◌, List, [], ◌∷◌, length, map, drop, Option, Some, None, refl, arith, ap, sym, ◌∙◌}
+use Rattle.std.proofs.Common.{◌≡◌, subst, ◌≢◌, ℕ, zero, suc, ◌+◌, List, [], ◌∷◌, length, drop, Some, None, refl, arith, ap, sym, ◌∙◌}
 use Rattle.pg_moves.specs.Frames.{Frame}
 use Rattle.pg_acts.specs.declared.cause.ActFault.{ActFault}
 use Rattle.pg_acts.specs.declared.reduction.Reduction.{Reduction}
 use Rattle.pg_acts.specs.Doing.{Makes}
 use Rattle.pg_acts.specs.Named.{second_part}
-use Rattle.std.specs.Prelude.{Result, Ok, Err, All, slice_get, option_map, slice_index_or}
+use Rattle.std.specs.Prelude.{Result, Ok, Err, All, slice_get, slice_index_or}
 use Rattle.pg_base.specs.Tokens.{Word, word}
 use Rattle.pg_base.specs.declared.token.Token.{Token}
 use Rattle.pg_script.specs.View.{words}

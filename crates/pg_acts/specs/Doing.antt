@@ -1,5 +1,5 @@
 -- What an act on a goal answers.
-use Rattle.std.specs.Prelude.{◌≡◌, ◌<◌, ◌+◌, List, [], ◌∷◌, length, map, Result, Ok, Err}
+use Rattle.std.specs.Prelude.{◌≡◌, ◌<◌, ◌+◌, List, length, map, Result, Ok, Err}
 use Rattle.pg_logic.specs.Declarations.{signature_of}
 use Rattle.pg_moves.specs.Goals.{Goal}
 use Rattle.pg_moves.specs.Causes.{Tried}

@@ -1,5 +1,5 @@
 -- What is told of a measure that is over its limit.
-use Rattle.std.specs.Prelude.{ℕ, ◌≡◌, ◌-◌, ◌^◌, List, length, min, Option, option_map}
+use Rattle.std.specs.Prelude.{◌≡◌, ◌-◌, ◌^◌, List, length, min, Option, option_map}
 use Rattle.pg_logic.specs.Tree.{Fm}
 use Rattle.pg_moves.specs.Goals.{Goal}
 use Rattle.pg_moves.specs.Measures.{all_nodes}
@@ -8,7 +8,7 @@ use Rattle.pg_goal.specs.declared.goal.Hyp.{Hyp}
 use Rattle.pg_acts.specs.View.{cause_of}
 use Rattle.pg_acts.specs.declared.cause.Cause as rust
 use Rattle.pg_acts.specs.declared.limits.Others.{Others}
-use Rattle.pg_moves.specs.Causes.{Cause, Measure, Nodes, Height, State, TooLarge, TooMany}
+use Rattle.pg_moves.specs.Causes.{Cause, Nodes, Height, State, TooLarge, TooMany}
 
 -- what was reached, or else its type's end
 abbrev pub told : Cause → Cause
