@@ -1,4 +1,4 @@
--- What is told of a measure that is over its limit.
+-- What is told of a number that may be over its type's end.
 use Rattle.std.specs.Prelude.{◌≡◌, ◌-◌, ◌^◌, List, length, min, Option, option_map}
 use Rattle.pg_logic.specs.Tree.{Fm}
 use Rattle.pg_moves.specs.Goals.{Goal}
@@ -8,13 +8,14 @@ use Rattle.pg_goal.specs.declared.goal.Hyp.{Hyp}
 use Rattle.pg_acts.specs.View.{cause_of}
 use Rattle.pg_acts.specs.declared.cause.Cause as rust
 use Rattle.pg_acts.specs.declared.limits.Others.{Others}
-use Rattle.pg_moves.specs.Causes.{Cause, Nodes, Height, State, TooLarge, TooMany}
+use Rattle.pg_moves.specs.Causes.{Cause, Nodes, Height, State, TooLarge, TooMany, LeftOpen}
 
 -- what was reached, or else its type's end
 abbrev pub told : Cause → Cause
 told (TooLarge Nodes reached) = TooLarge Nodes (min reached (2 ^ 64 - 1))
 told (TooLarge Height reached) = TooLarge Height (min reached (2 ^ 32 - 1))
 told (TooLarge State reached) = TooLarge State (min reached (2 ^ 64 - 1))
+told (LeftOpen count) = LeftOpen (min count (2 ^ 32 - 1))
 told (TooMany count) = TooMany (min count (2 ^ 32 - 1))
 told c = c
 
