@@ -31,8 +31,7 @@ use Rattle.pg_goal.specs.declared.expression.Given.{Given}
 use Rattle.pg_acts.specs.declared.cause.ActFault.{ActFault}
 use Rattle.pg_acts.specs.declared.cause.ActFault.TheVariants.{Stop, OutOfMemory}
 use Rattle.pg_acts.specs.declared.reduction.Reduction.{Reduction}
-use Rattle.pg_acts.specs.View.{cause_of}
-use Rattle.pg_acts.specs.Doing.{IsReady, Does, Makes, Yields}
+use Rattle.pg_acts.specs.Doing.{IsReady, Does, Makes}
 use Rattle.pg_acts.specs.Giving.{IsKnown, had_as, said}
 
 module _ (l : Lookup) (g : Goal) (ready : IsReady l g) where
@@ -91,6 +90,7 @@ module _ (l : Lookup) (g : Goal) (ready : IsReady l g) where
 
 -- ---- stops
 
+-- nothing is given, or said
 pub stopped-exact : (l : Lookup) (g : Goal) (e : Expression) (c : Cause) → given l g e ≡ Err c → new_goals l g (Exact e) ≡ Err c
 unfolding new_goals
 stopped-exact l g e c is = ap (λ x. and_then x (closed_by g.target)) is
@@ -98,8 +98,3 @@ stopped-exact l g e c is = ap (λ x. and_then x (closed_by g.target)) is
 pub stopped-have : (l : Lookup) (g : Goal) (x : Word) (o : Option Part) (e : Expression) (c : Cause) → said_or_given l g o e ≡ Err c → new_goals l g (Have x o e) ≡ Err c
 unfolding new_goals
 stopped-have l g x o e c is = ap (λ y. and_then y (had_as l g x)) is
-
--- what gives nothing is handed on
-pub handed-on : (l : Lookup) (g : Goal) (act : Act) (want : Tried Fm) → ((c : Cause) → want ≡ Err c → new_goals l g act ≡ Err c) → (e : ActFault) → Yields said want (Err e) → Does l g act (Err e)
-handed-on l g act want go (Stop c) y = go (cause_of c) y
-handed-on l g act want go OutOfMemory y = tt

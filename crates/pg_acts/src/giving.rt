@@ -1,10 +1,9 @@
 // The acts that take an expression.
-ghost use Rattle.std.specs.Prelude.{◌≡◌, ◌≢◌, ◌<◌, ◌^◌, ◌∷◌, [], All, IfOk, IfSome, length, option_map};
+ghost use Rattle.std.specs.Prelude.{◌≡◌, ◌≢◌, ◌∷◌, [], All, IfOk, IfSome, option_map};
 ghost use Rattle.pg_base.specs.Spans.{IsTokenText};
 ghost use Rattle.pg_base.specs.Tokens.{Word as Lexeme, word};
 ghost use Rattle.pg_kernel.specs.View.{proof};
-ghost use Rattle.pg_script.specs.View.{part, expression};
-ghost use Rattle.pg_terms.specs.View.{formula};
+ghost use Rattle.pg_script.specs.View.{expression};
 ghost use Rattle.pg_moves.specs.Acts as act;
 ghost use Rattle.pg_moves.specs.Assuming as moves;
 ghost use Rattle.pg_moves.specs.Closing.{given, closed_by};

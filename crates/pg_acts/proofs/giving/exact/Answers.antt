@@ -4,7 +4,8 @@ use Rattle.pg_moves.specs.Acts.{Exact}
 use Rattle.pg_moves.specs.Closing.{given}
 use Rattle.pg_goal.specs.View.{goal_of, lookup_of}
 use Rattle.pg_acts.specs.Giving.{said}
-use Rattle.pg_acts.proofs.Known.{does-exact, stopped-exact, handed-on}
+use Rattle.pg_acts.proofs.Does.{handed}
+use Rattle.pg_acts.proofs.Known.{does-exact, stopped-exact}
 use Rattle.pg_acts.proofs.giving.exact.Goals as goal
 
 pub returns-in-Ok : goal.returns-in-Ok
@@ -17,4 +18,4 @@ returns-in-Err c =
     let l = lookup_of c.args.lookup.now in
     let g = goal_of c.args.goal.now in
     let e = expression c.args.expr.now in
-    handed-on l g (Exact e) (given l g e) (stopped-exact l g e) c.in-Err.fault c.in-Err.ensures.yields
+    handed l g (Exact e) said (given l g e) (stopped-exact l g e) c.in-Err.fault c.in-Err.ensures.yields

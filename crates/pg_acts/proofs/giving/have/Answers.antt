@@ -6,7 +6,8 @@ use Rattle.pg_moves.specs.Acts.{Have}
 use Rattle.pg_moves.specs.Assuming.{said_or_given}
 use Rattle.pg_goal.specs.View.{goal_of, lookup_of}
 use Rattle.pg_acts.specs.Giving.{lent, said}
-use Rattle.pg_acts.proofs.Known.{does-have, stopped-have, handed-on}
+use Rattle.pg_acts.proofs.Does.{handed}
+use Rattle.pg_acts.proofs.Known.{does-have, stopped-have}
 use Rattle.pg_acts.proofs.giving.have.Goals as goal
 
 pub returns-in-Ok : goal.returns-in-Ok
@@ -22,4 +23,4 @@ returns-in-Err c =
     let x = word c.args.name.now in
     let o = option_map lent c.args.formula in
     let e = expression c.args.expr.now in
-    handed-on l g (Have x o e) (said_or_given l g o e) (stopped-have l g x o e) c.in-Err.fault c.in-Err.ensures.yields
+    handed l g (Have x o e) said (said_or_given l g o e) (stopped-have l g x o e) c.in-Err.fault c.in-Err.ensures.yields
