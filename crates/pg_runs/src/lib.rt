@@ -1,0 +1,10 @@
+//! Steps and runs of scripts, over any table of acts.
+#![tactic(auto)]
+
+mod act;
+mod running;
+mod state;
+
+pub use act::Acts;
+pub use running::{Outcome, Stop, run};
+pub use state::State;
