@@ -90,7 +90,7 @@ module _ (its : List Item) (i : ℕ) (it : Item) (lt : i < length its) (here : i
   pub room_at : (l : Lookup) (a cur : State) → HaveRoom l (parts_among (E its)) (goals_of a.goals) → Carries l (parts_among (E (take i its))) a cur → HaveRoom l (parts_in (entry it)) (goals_of cur.goals)
   room_at l a cur had c =
       room_less l (parts_in (entry it)) (parts_in (entry it) + parts_among (E (drop (i + 1) its))) (omega arith) (goals_of cur.goals)
-        (c.room (parts_in (entry it) + parts_among (E (drop (i + 1) its))) (subst (λ k. HaveRoom l k (goals_of a.goals)) parts-whole had))
+      (c.room (parts_in (entry it) + parts_among (E (drop (i + 1) its))) (subst (λ k. HaveRoom l k (goals_of a.goals)) parts-whole had))
 
   pub few_at : (first number : ℕ) → first + items_among (E its) < 2 ^ 32 → number ≡ first + items_among (E (take i its)) → number + items_in (entry it) < 2 ^ 32
   few_at first number lt e = let w = items-whole in omega (arith, lt, e, w)
@@ -104,10 +104,9 @@ module _ (its : List Item) (i : ℕ) (it : Item) (lt : i < length its) (here : i
       (run_item l (entry it) number (goals_of cur.goals) ≡ Ok (goals_of new.goals)) × Carries l (parts_in (entry it)) cur new → next ≡ number + items_in (entry it) →
       (run_items l (E its) first (goals_of a.goals) ≡ run_items l (E (drop (i + 1) its)) next (goals_of new.goals)) × Carries l (parts_among (E (take (i + 1) its))) a new × (next ≡ first + items_among (E (take (i + 1) its)))
   item_goes l first number next a cur new is c n d e =
-      let m = items-more in
-      (
+      let m = items-more in (
         is ∙ ap (λ xs. run_items l (E xs) number (goals_of cur.goals)) (drop-at its i it lt here)
-        ∙ ap (λ r. and_then r (run_items l (E (drop (i + 1) its)) (number + items_in (entry it)))) d.0 ∙ ap (λ k. run_items l (E (drop (i + 1) its)) k (goals_of new.goals)) (sym e),
+            ∙ ap (λ r. and_then r (run_items l (E (drop (i + 1) its)) (number + items_in (entry it)))) d.0 ∙ ap (λ k. run_items l (E (drop (i + 1) its)) k (goals_of new.goals)) (sym e),
         subst (λ k. Carries l k a new) (sym parts-more) (carries_then l (parts_among (E (take i its))) (parts_in (entry it)) a cur new c d.1),
         omega (arith, n, e, m),
       )
@@ -181,15 +180,14 @@ module _ (l : Lookup) (n k : ℕ) (inner : List moves.Goal → Ran) (a inside : 
       new.frames ≡ a.frames ++ after.frames → new.goals ≡ drop 1 a.goals → (focused n inner (goals_of a.goals) ≡ Ok (goals_of new.goals)) × Carries l k a new
   focus_closes after new fresh d b is empty frames goals =
       let gone = empty is in
-      let rest = ap goals_of goals in
-      (
+      let rest = ap goals_of goals in (
         focus-is ∙ ap (after_focus n (goal_of g ∷ goals_of (drop 1 a.goals)) (goals_of (drop 1 a.goals))) (d.0 ∙ ap (λ gs. Ok (goals_of gs)) gone) ∙ ap Ok (sym rest),
         record {
           leads = λ first-goals was.
-            subst (λ fs. Leads l fs first-goals (goals_of new.goals)) (sym (ap frames_of frames ∙ map-append frame_of a.frames after.frames))
+              subst (λ fs. Leads l fs first-goals (goals_of new.goals)) (sym (ap frames_of frames ∙ map-append frame_of a.frames after.frames))
               (subst (Leads l (frames_of a.frames ++ frames_of after.frames) first-goals) (sym rest)
-                (leads_then l (frames_of a.frames) (frames_of after.frames) first-goals (goal_of g ∷ goals_of (drop 1 a.goals)) (goals_of (drop 1 a.goals))
-                  (subst (Leads l (frames_of a.frames) first-goals) (by-first a.goals g first) was) (within gone)));
+              (leads_then l (frames_of a.frames) (frames_of after.frames) first-goals (goal_of g ∷ goals_of (drop 1 a.goals)) (goals_of (drop 1 a.goals))
+              (subst (Leads l (frames_of a.frames) first-goals) (by-first a.goals g first) was) (within gone)));
           room = λ r had. subst (HaveRoom l r) (sym rest) (behind r (subst (HaveRoom l (k + r)) (by-first a.goals g first) had));
         },
       )
@@ -197,9 +195,9 @@ module _ (l : Lookup) (n k : ℕ) (inner : List moves.Goal → Ran) (a inside : 
       within : after.goals ≡ [] → Leads l (frames_of after.frames) (goal_of g ∷ goals_of (drop 1 a.goals)) (goals_of (drop 1 a.goals))
       within gone =
           leads_before l (frames_of after.frames) (goal_of g ∷ []) [] (goals_of (drop 1 a.goals))
-            (subst (Leads l (frames_of after.frames) (goal_of g ∷ [])) (ap goals_of gone)
-              (d.1.leads (goal_of g ∷ []) (subst (λ fs. Leads l (frames_of fs) (goal_of g ∷ []) (goals_of inside.goals)) (sym fresh)
-                (subst (Leads l [] (goal_of g ∷ [])) (sym alone) (leads_stay l (goal_of g ∷ []))))))
+          (subst (Leads l (frames_of after.frames) (goal_of g ∷ [])) (ap goals_of gone)
+          (d.1.leads (goal_of g ∷ []) (subst (λ fs. Leads l (frames_of fs) (goal_of g ∷ []) (goals_of inside.goals)) (sym fresh)
+          (subst (Leads l [] (goal_of g ∷ [])) (sym alone) (leads_stay l (goal_of g ∷ []))))))
 
       behind : (r : ℕ) → HaveRoom l (k + r) (goal_of g ∷ goals_of (drop 1 a.goals)) → HaveRoom l r (goals_of (drop 1 a.goals))
       behind r had =

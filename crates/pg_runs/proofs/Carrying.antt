@@ -75,16 +75,15 @@ module _ (l : Lookup) where
   news : (k m : ℕ) → m + k < 4294967295 → (new : List Goal) → AllByRecursion (Fits s) (map sequent new) →
       AllByRecursion (λ (q : Sequent). q.vars ≤ m) (map sequent new) → AllByRecursion IsSmall new → Room k new
   news k m lt [] f v n = tt
-  news k m lt (g ∷ gs) f v n =
-      (
-        record {
-          fits = f.0;
-          vars = omega (arith, lt, v.0);
-          hyps = omega (arith, n.0.hyps);
-          nodes = All-from_recursion (λ a. nodes_of a < 2 ^ 29) (formulas g) (few-nodes (formulas g) n.0.formulas);
-        },
-        news k m lt gs f.1 v.1 n.1,
-      )
+  news k m lt (g ∷ gs) f v n = (
+    record {
+      fits = f.0;
+      vars = omega (arith, lt, v.0);
+      hyps = omega (arith, n.0.hyps);
+      nodes = All-from_recursion (λ a. nodes_of a < 2 ^ 29) (formulas g) (few-nodes (formulas g) n.0.formulas);
+    },
+    news k m lt gs f.1 v.1 n.1,
+  )
 
   front : (xs ys : List Goal) → AllByRecursion IsSmall (xs ++ ys) → AllByRecursion IsSmall xs
   front [] ys a = tt
@@ -95,11 +94,11 @@ module _ (l : Lookup) where
   room_act k fs g new rest j e r =
       let q = recursion_from_All (HasRoom l (1 + k)) (g ∷ rest) r in
       All-from_recursion (HasRoom l k) (new ++ rest)
-        (behind k new rest
-          (news k (length g.vars + 1) (omega (arith, q.0.vars)) new
-            (recursion_from_All (Fits s) (map sequent new) j.fitting) (recursion_from_All (λ (x : Sequent). x.vars ≤ length g.vars + 1) (map sequent new) j.few)
-            (front new rest (within-small new (new ++ rest) e)))
-          (less k (1 + k) (omega arith) rest q.1))
+      (behind k new rest
+      (news k (length g.vars + 1) (omega (arith, q.0.vars)) new
+      (recursion_from_All (Fits s) (map sequent new) j.fitting) (recursion_from_All (λ (x : Sequent). x.vars ≤ length g.vars + 1) (map sequent new) j.few)
+      (front new rest (within-small new (new ++ rest) e)))
+      (less k (1 + k) (omega arith) rest q.1))
 
   -- an act finds its goal ready
   pub ready : IsSound l → (g : Goal) (rest : List Goal) → HaveRoom l 1 (g ∷ rest) → IsReady l g
@@ -143,6 +142,6 @@ module _ (l : Lookup) where
       let fs = ap frames_of frames ∙ map-append frame_of old.frames r.frames in
       record {
         leads = λ first was. subst (λ gs. Leads l (frames_of new.frames) first gs) (sym after) (subst (λ fs. Leads l fs first (goals_of r.goals ++ rest)) (sym fs)
-          (leads_then (frames_of old.frames) (frames_of r.frames) first (g ∷ rest) (goals_of r.goals ++ rest) (subst (Leads l (frames_of old.frames) first) before was) (leads_act (frames_of r.frames) g (goals_of r.goals) rest d.0.justified)));
+            (leads_then (frames_of old.frames) (frames_of r.frames) first (g ∷ rest) (goals_of r.goals ++ rest) (subst (Leads l (frames_of old.frames) first) before was) (leads_act (frames_of r.frames) g (goals_of r.goals) rest d.0.justified)));
         room = λ k had. subst (HaveRoom l k) (sym after) (room_act k (frames_of r.frames) g (goals_of r.goals) rest d.0.justified d.1 (subst (HaveRoom l (1 + k)) before had));
       }

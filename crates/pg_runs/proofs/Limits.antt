@@ -18,9 +18,9 @@ behind (Some c ∷ xs) ys e = absurd (cc)
 
 within : (limit n : ℕ) (c : Cause) → over limit n c ≡ None → n ≤ limit
 within limit n c e = elim (nat_lt limit n) as (λ b. nat_lt limit n ≡ b → (if b then Some c else None) ≡ None → n ≤ limit) [
-      | true ↦ λ _ q. absurd (cc)
-      | false ↦ λ is _. ltb-false limit n is
-    ] refl e
+  | true ↦ λ _ q. absurd (cc)
+  | false ↦ λ is _. ltb-false limit n is
+] refl e
 
 last-over : (a b : Option Cause) → first_over (a ∷ b ∷ []) ≡ None → b ≡ None
 last-over None None e = refl
@@ -31,8 +31,8 @@ last-over (Some c) b e = absurd (cc)
 block-small : (new block : List Goal) → first_large new block ≡ None → all_nodes block ≤ 65536
 block-small new block e =
     within 65536 (all_nodes block) (TooLarge State (all_nodes block))
-      (last-over (over 64 (length block) (TooMany (length block))) (over 65536 (all_nodes block) (TooLarge State (all_nodes block)))
-        (behind (flat_map goal_measures new) (block_measures block) e))
+    (last-over (over 64 (length block) (TooMany (length block))) (over 65536 (all_nodes block) (TooLarge State (all_nodes block)))
+    (behind (flat_map goal_measures new) (block_measures block) e))
 
 -- ---- so each goal is small
 

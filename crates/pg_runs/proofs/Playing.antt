@@ -67,7 +67,7 @@ module _ (l : Lookup) where
         n ≡ s.item → i ≡ s.part → last.goals ≡ s.goals → StopsAt (run_parts l n m total 0 (goals_of a.goals)) s
     part_halts a cur last s is q same item part goals =
         subst (λ r. StopsAt r s) (sym (is ∙ unfolds (goals_of cur.goals)))
-          (stops-so (goals_of cur.goals) s (step l (goals_of cur.goals) m i) (run_parts l n m (total - (i + 1)) (i + 1)) q item part (ap (λ (z : State). goals_of z.goals) (sym same) ∙ ap goals_of goals))
+        (stops-so (goals_of cur.goals) s (step l (goals_of cur.goals) m i) (run_parts l n m (total - (i + 1)) (i + 1)) q item part (ap (λ (z : State). goals_of z.goals) (sym same) ∙ ap goals_of goals))
 
   -- all of them
   pub parts_done : (n : ℕ) (m : Step) (total i : ℕ) (a cur : State) → total ≤ i → i ≤ total → run_parts l n m total 0 (goals_of a.goals) ≡ run_parts l n m (total - i) i (goals_of cur.goals) → Carries l i a cur →

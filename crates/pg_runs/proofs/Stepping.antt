@@ -94,8 +94,7 @@ module _ (l : Lookup) (m : Step) (part : ℕ) where
       Steps l (step l (goals_of old.goals) m part) old new (Ok tt)
   done old new g rest r here lt q d frames after =
       let x = acts (goals_of old.goals) lt q in
-      let w = d x.0 x.1 in
-      (
+      let w = d x.0 x.1 in (
         x.2 ∙ ap (λ gs. acted l gs x.0) here ∙ carrying.act_goes l g rest (goals_of r.goals) x.0 w.0.goals w.1 ∙ ap Ok (sym after),
         carrying.carries l old new g rest x.0 r here w frames after,
       )

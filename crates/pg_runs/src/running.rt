@@ -307,13 +307,7 @@ fn checked(
     ensures proof { IfOk result (λ c. IsProof (lookup_of lookup.now) statement.now (proof_in c.1)) }
 {
     let goal = statement_formula(alloc, statement)?;
-    match admit(
-        alloc,
-        lookup.sig,
-        lookup.theorems,
-        goal,
-        proof.into_inner(),
-    )? {
+    match admit(alloc, lookup.sig, lookup.theorems, goal, proof.into_inner())? {
         Some(checked) => Ok(checked),
         None => unreachable!(),
     }

@@ -38,7 +38,7 @@ items-loop-it-preserved m t c =
     let i = c.loop-it.it-index in
     let it = c.it-item.result in
     blocks.item_goes its i it c.loop-it-test.true c.it-item.is l c.args.first c.loop-it.number c.in_ok-number.number c.args.state.now c.loop-it.state c.item.new.state
-      c.loop-it.invariant.0 c.loop-it.invariant.1 c.loop-it.invariant.2 c.in_ok-number.ensures.runs c.in_ok-number.ensures.next
+    c.loop-it.invariant.0 c.loop-it.invariant.1 c.loop-it.invariant.2 c.in_ok-number.ensures.runs c.in_ok-number.ensures.next
 
 pub focus-items-requires : goal.focus-items-requires
 focus-items-requires m t c =
@@ -69,7 +69,7 @@ focus-returns-in_err-next-clause-runs m t c =
     let inner = run_items l (E c.args.block.now) (c.args.number + 1) in
     let a = c.args.state.now in
     blocks.handed ℕ (Runs l (focused c.args.number inner (goals_of a.goals)) k a a) c.from_residual-in_err-next.result c.in_err-next.field-0.0 c.from_residual-in_err-next.ensures
-      (blocks.focus_halts l c.args.number k inner a c.in_ok-inner.inner c.in-Some.goal.now c.in_ok-copied.field-0 c.in-Some.ensures.value c.in_ok-copied.ensures c.in_ok-inner.ensures.goals ℕ c.in_err-next.field-0.0 c.items.new.state a c.in_err-next.ensures.runs)
+    (blocks.focus_halts l c.args.number k inner a c.in_ok-inner.inner c.in-Some.goal.now c.in_ok-copied.field-0 c.in-Some.ensures.value c.in_ok-copied.ensures c.in_ok-inner.ensures.goals ℕ c.in_err-next.field-0.0 c.items.new.state a c.in_err-next.ensures.runs)
 
 pub focus-returns-clause-runs : goal.focus-returns-clause-runs
 focus-returns-clause-runs m t c =
@@ -77,7 +77,7 @@ focus-returns-clause-runs m t c =
     let k = parts_among (E c.args.block.now) in
     let inner = run_items l (E c.args.block.now) (c.args.number + 1) in
     blocks.focus_closes l c.args.number k inner c.args.state.now c.in_ok-inner.inner c.in-Some.goal.now c.in_ok-copied.field-0 c.in-Some.ensures.value c.in_ok-copied.ensures c.in_ok-inner.ensures.goals
-      c.items.new.state c.close_first.new.self c.in_ok-inner.ensures.frames c.in_ok-next.ensures.runs c.is_empty.result c.if-not-is_empty.false c.is_empty.ensures.0 c.in_ok-close_first.ensures.frames c.in_ok-close_first.ensures.goals
+    c.items.new.state c.close_first.new.self c.in_ok-inner.ensures.frames c.in_ok-next.ensures.runs c.is_empty.result c.if-not-is_empty.false c.is_empty.ensures.0 c.in_ok-close_first.ensures.frames c.in_ok-close_first.ensures.goals
 
 pub item-returns-in-Hint-clause-runs : goal.item-returns-in-Hint-clause-runs
 item-returns-in-Hint-clause-runs m t c =
@@ -91,5 +91,5 @@ focus-returns-then-not-is_empty-clause-runs m t c =
     let inner = run_items l (E c.args.block.now) (c.args.number + 1) in
     let a = c.args.state.now in
     halted_at ℕ l (focused c.args.number inner (goals_of a.goals)) k a c.stopped-then-not-is_empty.new.state c.stopped-then-not-is_empty.result _ c.stopped-then-not-is_empty.ensures
-      (blocks.focus_open l c.args.number k inner a c.in_ok-inner.inner c.in-Some.goal.now c.in_ok-copied.field-0 c.in-Some.ensures.value c.in_ok-copied.ensures c.in_ok-inner.ensures.goals
-        c.items.new.state _ c.in_ok-next.ensures.runs.0 c.is_empty.result c.if-not-is_empty.true c.is_empty.ensures.1 refl refl (blocks.told_open c.len.result c.counted-count.result c.items.new.state.goals c.len.ensures c.counted-count.ensures) refl)
+    (blocks.focus_open l c.args.number k inner a c.in_ok-inner.inner c.in-Some.goal.now c.in_ok-copied.field-0 c.in-Some.ensures.value c.in_ok-copied.ensures c.in_ok-inner.ensures.goals
+    c.items.new.state _ c.in_ok-next.ensures.runs.0 c.is_empty.result c.if-not-is_empty.true c.is_empty.ensures.1 refl refl (blocks.told_open c.len.result c.counted-count.result c.items.new.state.goals c.len.ensures c.counted-count.ensures) refl)

@@ -9,7 +9,7 @@ use Rattle.pg_runs.proofs.running.+item.Given as goal
 abbrev pub invariant-items-loop-it : goal.invariant-items-loop-it
 invariant-items-loop-it m l =
     (run_items (lookup_of l.lookup) (entries_of (map entry l.items)) l.first (goals_of l.initial.state.goals)
-      ≡ run_items (lookup_of l.lookup) (entries_of (map entry (drop l.it-index l.items))) l.number (goals_of l.state.goals))
+    ≡ run_items (lookup_of l.lookup) (entries_of (map entry (drop l.it-index l.items))) l.number (goals_of l.state.goals))
     × Carries (lookup_of l.lookup) (parts_among (entries_of (map entry (take l.it-index l.items)))) l.initial.state l.state
     × (l.number ≡ l.first + items_among (entries_of (map entry (take l.it-index l.items))))
 

@@ -9,5 +9,5 @@ use Rattle.pg_runs.proofs.running.parts.Given as goal
 abbrev pub invariant-loop-part : goal.invariant-loop-part
 invariant-loop-part m l =
     (run_parts (lookup_of l.lookup) l.number (move_in l.step) (steps_of (shape l.step.form)) 0 (goals_of l.initial.state.goals)
-      ≡ run_parts (lookup_of l.lookup) l.number (move_in l.step) (steps_of (shape l.step.form) - l.part) l.part (goals_of l.state.goals))
+    ≡ run_parts (lookup_of l.lookup) l.number (move_in l.step) (steps_of (shape l.step.form) - l.part) l.part (goals_of l.state.goals))
     × Carries (lookup_of l.lookup) l.part l.initial.state l.state

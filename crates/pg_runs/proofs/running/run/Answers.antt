@@ -16,7 +16,7 @@ items-requires-clause-room m c =
     let l = lookup_of c.args.lookup.now in
     let es = entries_of (map entry c.args.script.now.items) in
     subst (λ xs. HaveRoom l (parts_among (entries_of (map entry xs))) (goals_of c.in_ok-state.state.goals)) (sym c.as_slice.ensures)
-      (subst (HaveRoom l (parts_among es)) (sym c.in_ok-state.ensures.goals) (has_room l c.args.statement.now es c.requires))
+    (subst (HaveRoom l (parts_among es)) (sym c.in_ok-state.ensures.goals) (has_room l c.args.statement.now es c.requires))
 
 pub ended-requires-clause-leads : goal.ended-requires-clause-leads
 ended-requires-clause-leads m c =
@@ -34,4 +34,4 @@ returns-in-Err-Stop m c =
     let old = c.in_ok-state.state in
     let q = subst (λ h. Runs {X = ℕ} l (run_items l es 0 (goals_of old.goals)) (parts_among es) old c.items.new.state (Err h)) c.in-Err-Stop.field-0-is c.in-Err-Stop.ensures.runs in
     subst (StopsSo (run l (first_goal st.binders.items (formula st.target)) (map entry c.args.script.now.items))) (sym c.in-Err-Stop.stop-is)
-      (ends_stopped l st c.args.script.now.items c.as_slice.result.now (goals_of old.goals) c.as_slice.ensures c.in_ok-state.ensures.goals c.in-Err-Stop.stop q)
+    (ends_stopped l st c.args.script.now.items c.as_slice.result.now (goals_of old.goals) c.as_slice.ensures c.in_ok-state.ensures.goals c.in-Err-Stop.stop q)

@@ -8,11 +8,10 @@ use Rattle.pg_runs.proofs.state.reduced.Goals as goal
 
 pub returns-in-None : goal.returns-in-None
 returns-in-None m c a e =
-    let rest = goals_of c.args.rest.now in
-    (
+    let rest = goals_of c.args.rest.now in (
       c.in_ok-made.ensures a e,
       within (lookup_of c.args.lookup.now) (first_large (goals_of c.in_ok-made.made.goals) (goals_of c.in_ok-made.made.goals ++ rest))
-        (subst (λ gs. Tells (first_large (goals_of gs) (goals_of gs ++ rest)) None) c.as_slice.ensures (c.in-None.ensures rest c.others.ensures)),
+          (subst (λ gs. Tells (first_large (goals_of gs) (goals_of gs ++ rest)) None) c.as_slice.ensures (c.in-None.ensures rest c.others.ensures)),
     )
 
 pub returns-in-Some : goal.returns-in-Some
@@ -21,4 +20,4 @@ returns-in-Some m c a e =
     let rest = goals_of c.args.rest.now in
     let new = goals_of c.in_ok-made.made.goals in
     large_stops l (goal_of c.args.goal.now) rest new a (first_large new (new ++ rest)) c.in-Some.cause (c.in_ok-made.ensures a e).goals refl
-      (subst (λ gs. Tells (first_large (goals_of gs) (goals_of gs ++ rest)) (Some c.in-Some.cause)) c.as_slice.ensures (c.in-Some.ensures rest c.others.ensures))
+    (subst (λ gs. Tells (first_large (goals_of gs) (goals_of gs ++ rest)) (Some c.in-Some.cause)) c.as_slice.ensures (c.in-Some.ensures rest c.others.ensures))

@@ -24,17 +24,19 @@ reduced-requires m c =
     }
 
 pub returns-in_default : goal.returns-in_default
-returns-in_default m c =
-    (no_goal (lookup_of c.args.lookup.now) (move_in c.args.step.now) c.args.part (goals_of c.args.self.now.goals)
-      (subst (λ gs. goals_of gs ≡ []) c.as_slice.ensures (none_of c.as_slice.result.now c.in_default.len_below)) c.in_ok-can_move.ensures, refl)
+returns-in_default m c = (
+  no_goal (lookup_of c.args.lookup.now) (move_in c.args.step.now) c.args.part (goals_of c.args.self.now.goals)
+      (subst (λ gs. goals_of gs ≡ []) c.as_slice.ensures (none_of c.as_slice.result.now c.in_default.len_below)) c.in_ok-can_move.ensures,
+  refl,
+)
 
 pub returns : goal.returns
 returns m c =
     let gs = c.args.self.now.goals in
     let here = subst (λ gs. goals_of gs ≡ goal_of c.goal-item.result ∷ goals_of (drop 1 gs)) c.as_slice.ensures (first_of c.as_slice.result.now c.goal-item.result c.goal-item.is c.in-len1-up.len_at_least) in
     done (lookup_of c.args.lookup.now) (move_in c.args.step.now) c.args.part c.args.self.now c.advance.new.self (goal_of c.goal-item.result) (goals_of (drop 1 gs)) c.in_ok-made.made
-      here c.requires.part c.in_ok-can_move.ensures (λ a e. subst (λ rest. IsReduced (lookup_of c.args.lookup.now) (goal_of c.goal-item.result) (goals_of rest) a (Ok c.in_ok-made.made)) (rest_here c.as_slice.result.now gs c.as_slice.ensures) (c.in_ok-made.ensures a e)) c.in_ok-advance.ensures.frames
-      (ap goals_of c.in_ok-advance.ensures.goals ∙ map-append goal_of c.in_ok-made.made.goals (drop 1 gs))
+    here c.requires.part c.in_ok-can_move.ensures (λ a e. subst (λ rest. IsReduced (lookup_of c.args.lookup.now) (goal_of c.goal-item.result) (goals_of rest) a (Ok c.in_ok-made.made)) (rest_here c.as_slice.result.now gs c.as_slice.ensures) (c.in_ok-made.ensures a e)) c.in_ok-advance.ensures.frames
+    (ap goals_of c.in_ok-advance.ensures.goals ∙ map-append goal_of c.in_ok-made.made.goals (drop 1 gs))
 
 pub returns-in_err-can_move : goal.returns-in_err-can_move
 returns-in_err-can_move x c =
@@ -42,7 +44,7 @@ returns-in_err-can_move x c =
     let m = move_in c.args.step.now in
     let old = c.args.self.now in
     handed (Steps l (step l (goals_of old.goals) m c.args.part) old old) c.from_residual.result c.in_err-can_move.field-0.0 c.from_residual.ensures
-      (cannot l m c.args.part old c.in_err-can_move.field-0.0 c.in_err-can_move.ensures)
+    (cannot l m c.args.part old c.in_err-can_move.field-0.0 c.in_err-can_move.ensures)
 
 pub returns-in_err-made : goal.returns-in_err-made
 returns-in_err-made x c =
@@ -53,5 +55,5 @@ returns-in_err-made x c =
     let here = subst (λ gs. goals_of gs ≡ goal_of c.goal-item.result ∷ goals_of (drop 1 gs)) c.as_slice.ensures (first_of c.as_slice.result.now c.goal-item.result c.goal-item.is c.in-len1-up.len_at_least) in
     let f = c.in_err-made.field-0.0 in
     handed (Steps l (step l (goals_of old.goals) m c.args.part) old old) c.from_residual-in_err-made.result f c.from_residual-in_err-made.ensures
-      (halted l m c.args.part old (goal_of c.goal-item.result) (goals_of (drop 1 gs)) f here c.requires.part c.in_ok-can_move.ensures
-        (λ a e. subst (λ rest. IsReduced l (goal_of c.goal-item.result) (goals_of rest) a (Err f)) (rest_here c.as_slice.result.now gs c.as_slice.ensures) (c.in_err-made.ensures a e)))
+    (halted l m c.args.part old (goal_of c.goal-item.result) (goals_of (drop 1 gs)) f here c.requires.part c.in_ok-can_move.ensures
+    (λ a e. subst (λ rest. IsReduced l (goal_of c.goal-item.result) (goals_of rest) a (Err f)) (rest_here c.as_slice.result.now gs c.as_slice.ensures) (c.in_err-made.ensures a e)))
