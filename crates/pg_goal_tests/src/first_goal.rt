@@ -46,10 +46,10 @@ fn variables_and_hypotheses_are_named(rt: HostRuntime) -> Result<(), Fail> {
 fn what_is_dead_is_seen_no_more(rt: HostRuntime) -> Result<(), Fail> {
     let alloc = rt.alloc();
     let goal = first(alloc)?.without_hyp(alloc, 0)?;
-    assert!(rt; goal.hypothesis_named("h") == None);
+    assert!(rt; goal.live_names(alloc)?.len() == 1);
     let formula = Boxed::new(alloc, Formula::Falsum)?;
     let goal = goal.with_hyp(Name::new(alloc, "h")?, formula)?;
-    assert!(rt; goal.hypothesis_named("h") == Some(1));
+    assert!(rt; goal.live_names(alloc)?.len() == 2);
     assert!(rt; goal.hyps.len() == 2);
     Ok(())
 }
