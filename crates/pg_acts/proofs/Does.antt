@@ -18,92 +18,83 @@ use Rattle.pg_moves.specs.Laws.{Justifies}
 use Rattle.pg_moves.specs.Proofs.{sequent}
 use Rattle.pg_moves.specs.Steps.{new_goals}
 use Rattle.pg_goal.specs.View.{goal_of}
-use Rattle.pg_acts.specs.declared.cause.ActFault.{ActFault}
-use Rattle.pg_acts.specs.declared.cause.ActFault.TheVariants.{Stop, OutOfMemory}
-use Rattle.pg_acts.specs.declared.reduction.Reduction.{Reduction}
-use Rattle.pg_acts.specs.View.{cause_of}
-use Rattle.pg_acts.specs.Doing.{IsReady, Does, Makes, Yields}
+use Rattle.pg_reduction.specs.declared.cause.ActFault.{ActFault}
+use Rattle.pg_reduction.specs.declared.cause.ActFault.TheVariants.{Stop, OutOfMemory}
+use Rattle.pg_reduction.specs.declared.reduction.Reduction.{Reduction}
+use Rattle.pg_reduction.specs.View.{cause_of}
+use Rattle.pg_reduction.specs.Doing.{IsReady, Does, Makes, Yields}
 use Rattle.pg_acts.specs.Named.{asserted_as, split_as, swapped_at, swapping}
 use Rattle.pg_acts.specs.Opening.{opening, opened_proof}
 use Rattle.pg_acts.specs.Reverting.{reverting}
-use Rattle.pg_acts.proofs.Justified.{J, j-rfl, j-exfalso, j-intro, j-left, j-right, j-both, j-witness, j-symm, j-symm_at, j-assert, j-by_cases, j-cases_hyp, j-revert_hyp, j-revert_var}
+use Rattle.pg_reduction.proofs.Does.{does}
+use Rattle.pg_acts.proofs.Justified.{j-rfl, j-exfalso, j-intro, j-left, j-right, j-both, j-witness, j-symm, j-symm_at, j-assert, j-by_cases, j-cases_hyp, j-revert_hyp, j-revert_var}
 
 module _ (l : Lookup) (g : Goal) (ready : IsReady l g) where
-  does : (act : Act) (want : Tried (List Goal)) (fs : List Frame) → new_goals l g act ≡ want → ((new : List Goal) → want ≡ Ok new → J l g ready new fs) →
-      (r : Result Reduction ActFault) → Makes want fs r → Does l g act r
-  does act want fs is j (Ok r) m =
-      record {
-        goals = is ∙ m.0;
-        justified = subst (λ fs. Justifies l (sequent g) (map sequent (map goal_of r.goals)) fs) (sym m.1) (j (map goal_of r.goals) m.0);
-      }
-  does act want fs is j (Err (Stop c)) m = is ∙ m
-  does act want fs is j (Err OutOfMemory) m = tt
-
   pub does-rfl : (r : Result Reduction ActFault) → Makes (reflexivity g.target) (whole reflexive ∷ []) r → Does l g Rfl r
   unfolding new_goals
-  does-rfl r m = does Rfl (reflexivity g.target) (whole reflexive ∷ []) refl (j-rfl l g ready) r m
+  does-rfl r m = does l g ready Rfl (reflexivity g.target) (whole reflexive ∷ []) refl (j-rfl l g ready) r m
 
   pub does-exfalso : (r : Result Reduction ActFault) → Makes (Ok (aimed falsum g ∷ [])) (under_fale ∷ []) r → Does l g Exfalso r
   unfolding new_goals
-  does-exfalso r m = does Exfalso (Ok (aimed falsum g ∷ [])) (under_fale ∷ []) refl (λ new e. j-exfalso l g ready new (cc)) r m
+  does-exfalso r m = does l g ready Exfalso (Ok (aimed falsum g ∷ [])) (under_fale ∷ []) refl (λ new e. j-exfalso l g ready new (cc)) r m
 
   pub does-intro : (x : Word) (r : Result Reduction ActFault) → Makes (intro_of l g x (goal_form l g)) (opening l g ++ intro_frame (goal_form l g) ∷ []) r → Does l g (Intro x) r
   unfolding new_goals
-  does-intro x r m = does (Intro x) (intro_of l g x (goal_form l g)) (opening l g ++ intro_frame (goal_form l g) ∷ []) refl (j-intro l g ready x) r m
+  does-intro x r m = does l g ready (Intro x) (intro_of l g x (goal_form l g)) (opening l g ++ intro_frame (goal_form l g) ∷ []) refl (j-intro l g ready x) r m
 
   pub does-left : (r : Result Reduction ActFault) → Makes (left_of g (goal_form l g)) (opening l g ++ under_orl ∷ []) r → Does l g Left r
   unfolding new_goals
-  does-left r m = does Left (left_of g (goal_form l g)) (opening l g ++ under_orl ∷ []) refl (j-left l g ready) r m
+  does-left r m = does l g ready Left (left_of g (goal_form l g)) (opening l g ++ under_orl ∷ []) refl (j-left l g ready) r m
 
   pub does-right : (r : Result Reduction ActFault) → Makes (right_of g (goal_form l g)) (opening l g ++ under_orr ∷ []) r → Does l g Right r
   unfolding new_goals
-  does-right r m = does Right (right_of g (goal_form l g)) (opening l g ++ under_orr ∷ []) refl (j-right l g ready) r m
+  does-right r m = does l g ready Right (right_of g (goal_form l g)) (opening l g ++ under_orr ∷ []) refl (j-right l g ready) r m
 
   pub does-both : (r : Result Reduction ActFault) → Makes (both_of g (goal_form l g)) (opening l g ++ pair ∷ []) r → Does l g Constructor r
   unfolding new_goals
-  does-both r m = does Constructor (both_of g (goal_form l g)) (opening l g ++ pair ∷ []) refl (j-both l g ready) r m
+  does-both r m = does l g ready Constructor (both_of g (goal_form l g)) (opening l g ++ pair ∷ []) refl (j-both l g ready) r m
 
   pub does-witness : (p : Part) (t : Tm) → term_there l g p ≡ Ok t → (r : Result Reduction ActFault) → Makes (witness_of g t (goal_form l g)) (opening l g ++ under_exi t ∷ []) r → Does l g (Witness p) r
   unfolding new_goals
   does-witness p t is r m =
-      does (Witness p) (witness_of g t (goal_form l g)) (opening l g ++ under_exi t ∷ []) (ap (λ x. and_then x (λ t. witness_of g t (goal_form l g))) is) (j-witness l g ready p t is) r m
+      does l g ready (Witness p) (witness_of g t (goal_form l g)) (opening l g ++ under_exi t ∷ []) (ap (λ x. and_then x (λ t. witness_of g t (goal_form l g))) is) (j-witness l g ready p t is) r m
 
   pub does-symm : (r : Result Reduction ActFault) → Makes (symmetric g) (symm_frames (length g.hyps) g.target) r → Does l g Symm r
   unfolding new_goals
-  does-symm r m = does Symm (symmetric g) (symm_frames (length g.hyps) g.target) refl (j-symm l g ready) r m
+  does-symm r m = does l g ready Symm (symmetric g) (symm_frames (length g.hyps) g.target) refl (j-symm l g ready) r m
 
   pub does-assert : (x : Word) (p : Part) (a : Fm) → formula_there l g p ≡ Ok a → (r : Result Reduction ActFault) → Makes (asserted_as l g x a) (lemma a (length g.hyps) ∷ []) r → Does l g (Assert x p) r
   unfolding new_goals
-  does-assert x p a is r m = does (Assert x p) (asserted_as l g x a) (lemma a (length g.hyps) ∷ []) (ap (λ y. and_then y (asserted_as l g x)) is) (j-assert l g ready p a is x) r m
+  does-assert x p a is r m = does l g ready (Assert x p) (asserted_as l g x a) (lemma a (length g.hyps) ∷ []) (ap (λ y. and_then y (asserted_as l g x)) is) (j-assert l g ready p a is x) r m
 
   pub does-by_cases : (x : Word) (p : Part) (a : Fm) → formula_there l g p ≡ Ok a → (r : Result Reduction ActFault) → Makes (split_as l g x a) (split a (imp a falsum) lem ∷ []) r → Does l g (ByCases x p) r
   unfolding new_goals
-  does-by_cases x p a is r m = does (ByCases x p) (split_as l g x a) (split a (imp a falsum) lem ∷ []) (ap (λ y. and_then y (split_as l g x)) is) (j-by_cases l g ready p a is x) r m
+  does-by_cases x p a is r m = does l g ready (ByCases x p) (split_as l g x a) (split a (imp a falsum) lem ∷ []) (ap (λ y. and_then y (split_as l g x)) is) (j-by_cases l g ready p a is x) r m
 
   -- ---- acts on a hypothesis
 
   pub does-symm_at : (x : Word) (f : Found) → hypothesis g x.text ≡ Some f → (r : Result Reduction ActFault) → Makes (swapped_at g f) (swapping (length g.hyps) f (swapped f.hyp.formula)) r → Does l g (SymmAt x) r
   unfolding new_goals
   does-symm_at x f is r m =
-      does (SymmAt x) (swapped_at g f) (swapping (length g.hyps) f (swapped f.hyp.formula)) (ap (λ o. and_then (wanted o (NoSuchName x.at)) (swapped_at g)) is) (j-symm_at l g ready x f is) r m
+      does l g ready (SymmAt x) (swapped_at g f) (swapping (length g.hyps) f (swapped f.hyp.formula)) (ap (λ o. and_then (wanted o (NoSuchName x.at)) (swapped_at g)) is) (j-symm_at l g ready x f is) r m
 
   pub does-cases : (x : Word) (ws : List Word) (f : Found) → variable_named g x.text ≡ None → hypothesis g x.text ≡ Some f → (r : Result Reduction ActFault) →
       Makes (cases_of_hyp l g f ws) (cases_frames (opened_proof l f) (head_unfolded l f.hyp.formula)) r → Does l g (Cases x ws) r
   unfolding new_goals
   does-cases x ws f none is r m =
-      does (Cases x ws) (cases_of_hyp l g f ws) (cases_frames (opened_proof l f) (head_unfolded l f.hyp.formula))
+      does l g ready (Cases x ws) (cases_of_hyp l g f ws) (cases_frames (opened_proof l f) (head_unfolded l f.hyp.formula))
       (ap (λ v. cases_as l g x ws v (hypothesis g x.text)) none ∙ ap (cases_as l g x ws None) is) (j-cases_hyp l g ready x f is ws) r m
 
   pub does-revert_hyp : (x : Word) (f : Found) → hypothesis g x.text ≡ Some f → (r : Result Reduction ActFault) → Makes (Ok (reverted_hyp g f ∷ [])) (give f.hyp.formula f.number ∷ []) r → Does l g (Revert x) r
   unfolding new_goals
   does-revert_hyp x f is r m =
-      does (Revert x) (Ok (reverted_hyp g f ∷ [])) (give f.hyp.formula f.number ∷ []) (ap (λ o. reverted_as g x o (variable_named g x.text)) is) (λ new e. j-revert_hyp l g ready x f is new (cc)) r m
+      does l g ready (Revert x) (Ok (reverted_hyp g f ∷ [])) (give f.hyp.formula f.number ∷ []) (ap (λ o. reverted_as g x o (variable_named g x.text)) is) (λ new e. j-revert_hyp l g ready x f is new (cc)) r m
 
   pub does-revert_var : (x : Word) (k : ℕ) → hypothesis g x.text ≡ None → variable_named g x.text ≡ Some k → (r : Result Reduction ActFault) →
       Makes (Ok (reverted_var g x.text k ∷ [])) (reverting (length g.hyps) g x.text k) r → Does l g (Revert x) r
   unfolding new_goals
   does-revert_var x k none is r m =
-      does (Revert x) (Ok (reverted_var g x.text k ∷ [])) (reverting (length g.hyps) g x.text k)
+      does l g ready (Revert x) (Ok (reverted_var g x.text k ∷ [])) (reverting (length g.hyps) g x.text k)
       (ap (λ o. reverted_as g x o (variable_named g x.text)) none ∙ ap (reverted_as g x None) is) (λ new e. j-revert_var l g ready x k is new (cc)) r m
 
 -- ---- stops
@@ -133,9 +124,3 @@ unread-assert l g x p c is = ap (λ y. and_then y (asserted_as l g x)) is
 pub unread-by_cases : (l : Lookup) (g : Goal) (x : Word) (p : Part) (c : Cause) → formula_there l g p ≡ Err c → new_goals l g (ByCases x p) ≡ Err c
 unfolding new_goals
 unread-by_cases l g x p c is = ap (λ y. and_then y (split_as l g x)) is
-
--- what a `?` hands on
-pub handed : {X Y : Type 0} (l : Lookup) (g : Goal) (act : Act) (view : X → Y) (want : Tried Y) → ((c : Cause) → want ≡ Err c → new_goals l g act ≡ Err c) →
-    (e : ActFault) → Yields view want (Err e) → Does l g act (Err e)
-handed l g act view want go (Stop c) y = go (cause_of c) y
-handed l g act view want go OutOfMemory y = tt

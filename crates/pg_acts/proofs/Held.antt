@@ -5,7 +5,7 @@ use Rattle.pg_terms.specs.View.{formula}
 use Rattle.pg_goal.specs.declared.goal.Hyp as rust
 use Rattle.pg_goal.specs.View.{hyp_of}
 use Rattle.pg_moves.specs.Proofs.{hyp_formula as moves_formula}
-use Rattle.pg_acts.specs.Limits.{hyp_formula}
+use Rattle.pg_reduction.specs.Limits.{hyp_formula}
 use Rattle.std.proofs.lemmas.Bool.{and_parts, and_from}
 use Rattle.pg_logic.specs.Tree.{Tm, free, bound, nought, succ, app, Tms, none, arg, Fm, falsum, eq, pred, and, or, imp, all, ex, is_tight, are_tight, is_tight_formula}
 use Rattle.pg_logic.specs.Signature.{Signature, Function, fits, fits_term, fits_terms}

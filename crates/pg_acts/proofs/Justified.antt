@@ -26,86 +26,73 @@ use Rattle.pg_moves.proofs.Good.{Good, good-rfl, good-exfalso, good-intro, good-
 use Rattle.pg_moves.proofs.Hypothetical.{found-there, good-symm, good-symm_at, good-assert, good-by_cases, good-revert_hyp}
 use Rattle.pg_moves.proofs.Cased.{good-cases_hyp}
 use Rattle.pg_moves.proofs.Inducted.{good-revert_var}
-use Rattle.pg_moves.proofs.Lawful.{reads, justified}
+use Rattle.pg_reduction.proofs.Does.{J, ok, fit, by-good}
 use Rattle.pg_moves.proofs.Sequents.{then-ok, wanted-ok}
-use Rattle.pg_acts.specs.Doing.{IsReady}
+use Rattle.pg_reduction.specs.Doing.{IsReady}
 use Rattle.pg_acts.specs.Named.{asserted_as, split_as, swapped_at, swapping}
 use Rattle.pg_acts.specs.Opening.{opening, opened_proof}
 use Rattle.pg_acts.specs.Reverting.{reverting}
 
 module _ (l : Lookup) (g : Goal) (ready : IsReady l g) where
-  ok : Sound l
-  ok = reads l ready.sound
+  pub j-rfl : (new : List Goal) → reflexivity g.target ≡ Ok new → J l g ready new (whole reflexive ∷ [])
+  j-rfl new e = by-good l g ready new _ (good-rfl l (ok l g ready) g (fit l g ready) new e)
 
-  fit : by.Fits (signature_of l.declared) (sequent g)
-  fit = by.from_fits (signature_of l.declared) (sequent g) ready.fits
+  pub j-exfalso : (new : List Goal) → aimed falsum g ∷ [] ≡ new → J l g ready new (under_fale ∷ [])
+  j-exfalso new e = by-good l g ready new _ (good-exfalso l (ok l g ready) g (fit l g ready) new e)
 
-  -- these frames justify these goals
-  abbrev pub J : List Goal → List Frame → Type 0
-  J new fs = Justifies l (sequent g) (map sequent new) fs
+  pub j-intro : (x : Word) (new : List Goal) → intro_of l g x (goal_form l g) ≡ Ok new → J l g ready new (opening l g ++ intro_frame (goal_form l g) ∷ [])
+  j-intro x new e = by-good l g ready new _ (good-intro l (ok l g ready) g (fit l g ready) (omega (arith, ready.vars)) x new e)
 
-  by-good : (new : List Goal) (fs : List Frame) → Good l (sequent g) (map sequent new) fs → J new fs
-  by-good new fs w = justified l (sequent g) (map sequent new) fs w
+  pub j-left : (new : List Goal) → left_of g (goal_form l g) ≡ Ok new → J l g ready new (opening l g ++ under_orl ∷ [])
+  j-left new e = by-good l g ready new _ (good-left l (ok l g ready) g (fit l g ready) new e)
 
-  pub j-rfl : (new : List Goal) → reflexivity g.target ≡ Ok new → J new (whole reflexive ∷ [])
-  j-rfl new e = by-good new _ (good-rfl l ok g fit new e)
+  pub j-right : (new : List Goal) → right_of g (goal_form l g) ≡ Ok new → J l g ready new (opening l g ++ under_orr ∷ [])
+  j-right new e = by-good l g ready new _ (good-right l (ok l g ready) g (fit l g ready) new e)
 
-  pub j-exfalso : (new : List Goal) → aimed falsum g ∷ [] ≡ new → J new (under_fale ∷ [])
-  j-exfalso new e = by-good new _ (good-exfalso l ok g fit new e)
+  pub j-both : (new : List Goal) → both_of g (goal_form l g) ≡ Ok new → J l g ready new (opening l g ++ pair ∷ [])
+  j-both new e = by-good l g ready new _ (good-both l (ok l g ready) g (fit l g ready) new e)
 
-  pub j-intro : (x : Word) (new : List Goal) → intro_of l g x (goal_form l g) ≡ Ok new → J new (opening l g ++ intro_frame (goal_form l g) ∷ [])
-  j-intro x new e = by-good new _ (good-intro l ok g fit (omega (arith, ready.vars)) x new e)
-
-  pub j-left : (new : List Goal) → left_of g (goal_form l g) ≡ Ok new → J new (opening l g ++ under_orl ∷ [])
-  j-left new e = by-good new _ (good-left l ok g fit new e)
-
-  pub j-right : (new : List Goal) → right_of g (goal_form l g) ≡ Ok new → J new (opening l g ++ under_orr ∷ [])
-  j-right new e = by-good new _ (good-right l ok g fit new e)
-
-  pub j-both : (new : List Goal) → both_of g (goal_form l g) ≡ Ok new → J new (opening l g ++ pair ∷ [])
-  j-both new e = by-good new _ (good-both l ok g fit new e)
-
-  pub j-witness : (p : Part) (t : Tm) → term_there l g p ≡ Ok t → (new : List Goal) → witness_of g t (goal_form l g) ≡ Ok new → J new (opening l g ++ under_exi t ∷ [])
-  j-witness p t is new e = by-good new _ (good-witness l ok g fit t (ok.terms g p t (wanted-ok (read_term l g p) (WrongArgument (begins p)) t is)) new e)
+  pub j-witness : (p : Part) (t : Tm) → term_there l g p ≡ Ok t → (new : List Goal) → witness_of g t (goal_form l g) ≡ Ok new → J l g ready new (opening l g ++ under_exi t ∷ [])
+  j-witness p t is new e = by-good l g ready new _ (good-witness l (ok l g ready) g (fit l g ready) t ((ok l g ready).terms g p t (wanted-ok (read_term l g p) (WrongArgument (begins p)) t is)) new e)
 
   -- so many hypotheses stand in the sequent
   abbrev as-many : length (map hyp_formula g.hyps) ≡ length g.hyps
   as-many = length-map g.hyps hyp_formula
 
-  pub j-symm : (new : List Goal) → symmetric g ≡ Ok new → J new (symm_frames (length g.hyps) g.target)
-  j-symm new e = subst (λ k. J new (symm_frames k g.target)) as-many (by-good new _ (good-symm l ok g fit new e))
+  pub j-symm : (new : List Goal) → symmetric g ≡ Ok new → J l g ready new (symm_frames (length g.hyps) g.target)
+  j-symm new e = subst (λ k. J l g ready new (symm_frames k g.target)) as-many (by-good l g ready new _ (good-symm l (ok l g ready) g (fit l g ready) new e))
 
   formula-fits : (p : Part) (a : Fm) → formula_there l g p ≡ Ok a → fits (signature_of l.declared) (length g.vars) 0 a ≡ true
-  formula-fits p a is = ok.formulas g p a (wanted-ok (read_formula l g p) (WrongArgument (begins p)) a is)
+  formula-fits p a is = (ok l g ready).formulas g p a (wanted-ok (read_formula l g p) (WrongArgument (begins p)) a is)
 
-  pub j-assert : (p : Part) (a : Fm) → formula_there l g p ≡ Ok a → (x : Word) (new : List Goal) → asserted_as l g x a ≡ Ok new → J new (lemma a (length g.hyps) ∷ [])
+  pub j-assert : (p : Part) (a : Fm) → formula_there l g p ≡ Ok a → (x : Word) (new : List Goal) → asserted_as l g x a ≡ Ok new → J l g ready new (lemma a (length g.hyps) ∷ [])
   j-assert p a is x new e =
       let z = then-ok (given_name l (live_names g) x) (λ n. Ok (aimed a g ∷ with_hyp n a g ∷ [])) new e in
-      subst (λ k. J new (lemma a k ∷ [])) as-many (by-good new _ (good-assert l ok g fit a (formula-fits p a is) z.0 new (cc)))
+      subst (λ k. J l g ready new (lemma a k ∷ [])) as-many (by-good l g ready new _ (good-assert l (ok l g ready) g (fit l g ready) a (formula-fits p a is) z.0 new (cc)))
 
-  pub j-by_cases : (p : Part) (a : Fm) → formula_there l g p ≡ Ok a → (x : Word) (new : List Goal) → split_as l g x a ≡ Ok new → J new (split a (imp a falsum) lem ∷ [])
+  pub j-by_cases : (p : Part) (a : Fm) → formula_there l g p ≡ Ok a → (x : Word) (new : List Goal) → split_as l g x a ≡ Ok new → J l g ready new (split a (imp a falsum) lem ∷ [])
   j-by_cases p a is x new e =
       let z = then-ok (given_name l (live_names g) x) (λ n. Ok (with_hyp n a g ∷ with_hyp n (imp a falsum) g ∷ [])) new e in
-      by-good new _ (good-by_cases l ok g fit a (formula-fits p a is) z.0 new (cc))
+      by-good l g ready new _ (good-by_cases l (ok l g ready) g (fit l g ready) a (formula-fits p a is) z.0 new (cc))
 
   -- ---- acts on a hypothesis that is found
 
   there : (x : Word) (f : Found) → hypothesis g x.text ≡ Some f → slice_get (map hyp_formula g.hyps) f.number ≡ Some f.hyp.formula
   there x f is = found-there g x.text f is
 
-  pub j-symm_at : (x : Word) (f : Found) → hypothesis g x.text ≡ Some f → (new : List Goal) → swapped_at g f ≡ Ok new → J new (swapping (length g.hyps) f (swapped f.hyp.formula))
+  pub j-symm_at : (x : Word) (f : Found) → hypothesis g x.text ≡ Some f → (new : List Goal) → swapped_at g f ≡ Ok new → J l g ready new (swapping (length g.hyps) f (swapped f.hyp.formula))
   j-symm_at x f is new e =
       let y = then-ok (swapped f.hyp.formula) (λ a. Ok (changed_to g f a ∷ [])) new e in
-      let w = by-good new _ (good-symm_at l ok g fit f (there x f is) y.0 y.1 new (cc)) in
-      subst (λ fs. J new fs) (ap (swapping (length g.hyps) f) (sym y.1)) (subst (λ k. J new (cut y.0 (swapped_proof f.number k f.hyp.formula) ∷ [])) as-many w)
+      let w = by-good l g ready new _ (good-symm_at l (ok l g ready) g (fit l g ready) f (there x f is) y.0 y.1 new (cc)) in
+      subst (λ fs. J l g ready new fs) (ap (swapping (length g.hyps) f) (sym y.1)) (subst (λ k. J l g ready new (cut y.0 (swapped_proof f.number k f.hyp.formula) ∷ [])) as-many w)
 
-  pub j-revert_hyp : (x : Word) (f : Found) → hypothesis g x.text ≡ Some f → (new : List Goal) → reverted_hyp g f ∷ [] ≡ new → J new (give f.hyp.formula f.number ∷ [])
-  j-revert_hyp x f is new e = by-good new _ (good-revert_hyp l ok g fit f (there x f is) new e)
+  pub j-revert_hyp : (x : Word) (f : Found) → hypothesis g x.text ≡ Some f → (new : List Goal) → reverted_hyp g f ∷ [] ≡ new → J l g ready new (give f.hyp.formula f.number ∷ [])
+  j-revert_hyp x f is new e = by-good l g ready new _ (good-revert_hyp l (ok l g ready) g (fit l g ready) f (there x f is) new e)
 
-  pub j-cases_hyp : (x : Word) (f : Found) → hypothesis g x.text ≡ Some f → (ws : List Word) (new : List Goal) → cases_of_hyp l g f ws ≡ Ok new → J new (cases_frames (opened_proof l f) (head_unfolded l f.hyp.formula))
-  j-cases_hyp x f is ws new e = by-good new _ (good-cases_hyp l ok g fit (omega (arith, ready.vars)) f (there x f is) ws new e)
+  pub j-cases_hyp : (x : Word) (f : Found) → hypothesis g x.text ≡ Some f → (ws : List Word) (new : List Goal) → cases_of_hyp l g f ws ≡ Ok new → J l g ready new (cases_frames (opened_proof l f) (head_unfolded l f.hyp.formula))
+  j-cases_hyp x f is ws new e = by-good l g ready new _ (good-cases_hyp l (ok l g ready) g (fit l g ready) (omega (arith, ready.vars)) f (there x f is) ws new e)
 
-  pub j-revert_var : (x : Word) (k : ℕ) → variable_named g x.text ≡ Some k → (new : List Goal) → reverted_var g x.text k ∷ [] ≡ new → J new (reverting (length g.hyps) g x.text k)
+  pub j-revert_var : (x : Word) (k : ℕ) → variable_named g x.text ≡ Some k → (new : List Goal) → reverted_var g x.text k ∷ [] ≡ new → J l g ready new (reverting (length g.hyps) g x.text k)
   j-revert_var x k is new e =
       let within = (position-Some (λ (v : Var). v.live && bytes_eq x.text v.name) g.vars k (record { name = []; live = false }) is).0 in
-      subst (λ n. J new (reverting n g x.text k)) as-many (by-good new _ (good-revert_var l ok g fit ready.vars k within x.text new e))
+      subst (λ n. J l g ready new (reverting n g x.text k)) as-many (by-good l g ready new _ (good-revert_var l (ok l g ready) g (fit l g ready) ready.vars k within x.text new e))

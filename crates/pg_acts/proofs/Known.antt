@@ -22,58 +22,39 @@ use Rattle.pg_moves.proofs.ByRecursion as by
 use Rattle.pg_moves.proofs.Given.{Sound}
 use Rattle.pg_moves.proofs.Good.{good-exact}
 use Rattle.pg_moves.proofs.Hypothetical.{good-had}
-use Rattle.pg_moves.proofs.Lawful.{reads, justified}
 use Rattle.pg_moves.proofs.Rules.{same_formula-refl}
 use Rattle.pg_moves.proofs.Sequents.{then-ok, wanted-ok}
+use Rattle.pg_reduction.proofs.Does.{J, ok, fit, by-good, does}
 use Rattle.pg_goal.specs.Conditions.{IsProved}
 use Rattle.pg_goal.specs.View.{goal_of}
 use Rattle.pg_goal.specs.declared.expression.Given.{Given}
-use Rattle.pg_acts.specs.declared.cause.ActFault.{ActFault}
-use Rattle.pg_acts.specs.declared.cause.ActFault.TheVariants.{Stop, OutOfMemory}
-use Rattle.pg_acts.specs.declared.reduction.Reduction.{Reduction}
-use Rattle.pg_acts.specs.Doing.{IsReady, Does, Makes}
-use Rattle.pg_acts.specs.Giving.{IsKnown, had_as, said}
+use Rattle.pg_reduction.specs.declared.cause.ActFault.{ActFault}
+use Rattle.pg_reduction.specs.declared.cause.ActFault.TheVariants.{Stop, OutOfMemory}
+use Rattle.pg_reduction.specs.declared.reduction.Reduction.{Reduction}
+use Rattle.pg_reduction.specs.Doing.{IsReady, Does, Makes}
+use Rattle.pg_reduction.specs.Giving.{said}
+use Rattle.pg_acts.specs.Giving.{IsKnown, had_as}
 
 module _ (l : Lookup) (g : Goal) (ready : IsReady l g) where
-  ok : Sound l
-  ok = reads l ready.sound
-
-  fit : by.Fits (signature_of l.declared) (sequent g)
-  fit = by.from_fits (signature_of l.declared) (sequent g) ready.fits
-
-  -- these frames justify these goals
-  abbrev J : List Goal → List Frame → Type 0
-  J new fs = Justifies l (sequent g) (map sequent new) fs
-
-  does : (act : Act) (want : Tried (List Goal)) (fs : List Frame) → new_goals l g act ≡ want → ((new : List Goal) → want ≡ Ok new → J new fs) →
-      (r : Result Reduction ActFault) → Makes want fs r → Does l g act r
-  does act want fs is j (Ok r) m =
-      record {
-        goals = is ∙ m.0;
-        justified = subst (λ fs. Justifies l (sequent g) (map sequent (map goal_of r.goals)) fs) (sym m.1) (j (map goal_of r.goals) m.0);
-      }
-  does act want fs is j (Err (Stop c)) m = is ∙ m
-  does act want fs is j (Err OutOfMemory) m = tt
-
   -- ---- `exact e`
 
-  j-exact : (a : Fm) (p : Pf) → IsProved l g a p → (new : List Goal) → closed_by g.target a ≡ Ok new → J new (whole p ∷ [])
-  j-exact a p is new e = justified l (sequent g) (map sequent new) _ (good-exact l ok g fit a p is.shows new e)
+  j-exact : (a : Fm) (p : Pf) → IsProved l g a p → (new : List Goal) → closed_by g.target a ≡ Ok new → J l g ready new (whole p ∷ [])
+  j-exact a p is new e = by-good l g ready new _ (good-exact l (ok l g ready) g (fit l g ready) a p is.shows new e)
 
   pub does-exact : (e : Expression) (a : Fm) (p : Pf) → given l g e ≡ Ok a → IsProved l g a p → (r : Result Reduction ActFault) → Makes (closed_by g.target a) (whole p ∷ []) r → Does l g (Exact e) r
   unfolding new_goals
-  does-exact e a p is shown r m = does (Exact e) (closed_by g.target a) (whole p ∷ []) (ap (λ x. and_then x (closed_by g.target)) is) (j-exact a p shown) r m
+  does-exact e a p is shown r m = does l g ready (Exact e) (closed_by g.target a) (whole p ∷ []) (ap (λ x. and_then x (closed_by g.target)) is) (j-exact a p shown) r m
 
   -- ---- `have h := e`, `have h : A := e`
 
-  j-had : (x : Word) (a : Fm) (p : Pf) → IsKnown l g a p → (new : List Goal) → had_as l g x a ≡ Ok new → J new (cut a p ∷ [])
+  j-had : (x : Word) (a : Fm) (p : Pf) → IsKnown l g a p → (new : List Goal) → had_as l g x a ≡ Ok new → J l g ready new (cut a p ∷ [])
   j-had x a p is new e =
       let z = then-ok (given_name l (live_names g) x) (λ n. Ok (with_hyp n a g ∷ [])) new e in
-      justified l (sequent g) (map sequent new) _ (good-had l ok g fit a p is.fitting is.proves z.0 new (cc))
+      by-good l g ready new _ (good-had l (ok l g ready) g (fit l g ready) a p is.fitting is.proves z.0 new (cc))
 
   pub does-have : (x : Word) (o : Option Part) (e : Expression) (a : Fm) (p : Pf) → said_or_given l g o e ≡ Ok a → IsKnown l g a p → (r : Result Reduction ActFault) → Makes (had_as l g x a) (cut a p ∷ []) r → Does l g (Have x o e) r
   unfolding new_goals
-  does-have x o e a p is known r m = does (Have x o e) (had_as l g x a) (cut a p ∷ []) (ap (λ y. and_then y (had_as l g x)) is) (j-had x a p known) r m
+  does-have x o e a p is known r m = does l g ready (Have x o e) (had_as l g x a) (cut a p ∷ []) (ap (λ y. and_then y (had_as l g x)) is) (j-had x a p known) r m
 
   -- what is proved is known
   pub known : (a : Fm) (p : Pf) → IsProved l g a p → IsKnown l g a p
@@ -86,7 +67,7 @@ module _ (l : Lookup) (g : Goal) (ready : IsReady l g) where
   -- and so is what is said, where it is the same
   pub known-said : (part : Part) (a c : Fm) (p : Pf) → formula_there l g part ≡ Ok a → IsProved l g c p → same_formula c a ≡ true → IsKnown l g a p
   known-said part a c p there is same =
-      record { fitting = ok.formulas g part a (wanted-ok (read_formula l g part) (WrongArgument (begins part)) a there); proves = is.shows a same }
+      record { fitting = (ok l g ready).formulas g part a (wanted-ok (read_formula l g part) (WrongArgument (begins part)) a there); proves = is.shows a same }
 
 -- ---- stops
 

@@ -1,9 +1,9 @@
 -- The names of what a hypothesis is taken apart to.
 use Rattle.std.proofs.Common.{◌≡◌, subst, ◌≢◌, ℕ, zero, suc, ◌+◌, List, [], ◌∷◌, length, drop, Some, None, refl, arith, ap, sym, ◌∙◌}
 use Rattle.pg_moves.specs.Frames.{Frame}
-use Rattle.pg_acts.specs.declared.cause.ActFault.{ActFault}
-use Rattle.pg_acts.specs.declared.reduction.Reduction.{Reduction}
-use Rattle.pg_acts.specs.Doing.{Makes}
+use Rattle.pg_reduction.specs.declared.cause.ActFault.{ActFault}
+use Rattle.pg_reduction.specs.declared.reduction.Reduction.{Reduction}
+use Rattle.pg_reduction.specs.Doing.{Makes}
 use Rattle.pg_acts.specs.Named.{second_part}
 use Rattle.std.specs.Prelude.{Result, Ok, Err, All, slice_get, slice_index_or}
 use Rattle.pg_base.specs.Tokens.{Word, word}
@@ -68,5 +68,3 @@ some-made l g g1 h z ts us a x y n ex eg eu en ey =
     ∙ ap (λ vs. and_then (new_name l (live_names g1) vs h) (λ y. Ok (with_hyp y body g1 ∷ []))) (sym (words-rest ts us eu))
     ∙ ap (λ r. and_then r (λ y. Ok (with_hyp y body g1 ∷ []))) ey
     ∙ ap (λ n. Ok (with_hyp y (opened_formula (free n) a) g1 ∷ [])) (sym en)
-
-pub ruleset lengths = (length-map)

@@ -19,13 +19,9 @@ use Rattle.pg_moves.specs.Proofs.{Proves, hyp_formula}
 use Rattle.pg_goal.specs.declared.expression.Given.{Given}
 use Rattle.pg_goal.specs.declared.expression.ExprFault.{ExprFault}
 use Rattle.pg_goal.specs.declared.expression.ExprFault.TheVariants.{NoSuchName, Locked, WrongArgument, TooManyArguments, TooLarge, OutOfMemory}
-use Rattle.pg_acts.specs.declared.cause.ActFault.{ActFault}
-use Rattle.pg_acts.specs.declared.cause.ActFault.TheVariants as act
-use Rattle.pg_acts.specs.View.{cause_of}
-
--- the formula
-abbrev pub said : Given → Fm
-said x = formula x.formula
+use Rattle.pg_reduction.specs.declared.cause.ActFault.{ActFault}
+use Rattle.pg_reduction.specs.declared.cause.ActFault.TheVariants as act
+use Rattle.pg_reduction.specs.View.{cause_of}
 
 -- the part that is lent
 abbrev pub lent : Bor Piece → Part
@@ -42,17 +38,3 @@ pub record IsKnown (l : Lookup) (g : Goal) (a : Fm) (p : Pf) : Type 0 where
 -- `have h := e`, `have h : A := e`, where the formula is known
 abbrev pub had_as : Lookup → Goal → Word → Fm → Tried (List Goal)
 had_as l g h a = and_then (given_name l (live_names g) h) (λ n. Ok (with_hyp n a g ∷ []))
-
--- the cause of a fault; want of memory is none
-abbrev pub fault_cause : ExprFault → Option causes.Cause
-fault_cause (NoSuchName at) = Some (moves.cause_of (moves.NoSuchName at))
-fault_cause (Locked at theorem) = Some (moves.cause_of (moves.Locked at theorem))
-fault_cause (WrongArgument at) = Some (moves.cause_of (moves.WrongArgument at))
-fault_cause (TooManyArguments at) = Some (moves.cause_of (moves.TooManyArguments at))
-fault_cause (TooLarge size) = Some (moves.cause_of (moves.TooLarge size))
-fault_cause OutOfMemory = None
-
--- the cause by which an act stops; want of memory is none
-abbrev pub stop_cause : ActFault → Option causes.Cause
-stop_cause (act.Stop c) = Some (cause_of c)
-stop_cause act.OutOfMemory = None

@@ -9,12 +9,6 @@ use Rattle.pg_moves.specs.Lookup.{Lookup, given_name, new_name}
 use Rattle.pg_moves.specs.Assuming.{Found, changed_to, swapped}
 use Rattle.pg_moves.specs.Frames.{Frame, cut}
 use Rattle.pg_moves.specs.Framing.{swapped_proof}
-use Rattle.pg_goal.specs.View.{hyp_of}
-use Rattle.pg_acts.specs.declared.assuming.Found as rust
-
--- the live hypothesis of a name
-abbrev pub found_of : rust.Found → Found
-found_of f = record { number = f.number; hyp = hyp_of f.hyp.now }
 
 -- a formula, or else the cause that there is none of the form
 abbrev pub answer : Option Fm → Tried Fm

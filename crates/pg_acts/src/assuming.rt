@@ -12,18 +12,15 @@ ghost use Rattle.pg_moves.specs.Assuming as moves;
 ghost use Rattle.pg_moves.specs.Frames as frames;
 ghost use Rattle.pg_moves.specs.Framing.{symm_frames, swapped_proof};
 ghost use Rattle.pg_goal.specs.View.{goal_of, lookup_of};
-ghost use Rattle.pg_acts.specs.Doing.{IsReady, Does, Makes};
-ghost use Rattle.pg_acts.specs.Named.{found_of, answer, asserted_as, split_as, swapped_at, swapping};
+ghost use Rattle.pg_reduction.specs.Doing.{IsReady, Does, Makes};
+ghost use Rattle.pg_reduction.specs.Named.{found_of};
+ghost use Rattle.pg_acts.specs.Named.{answer, asserted_as, split_as, swapped_at, swapping};
 
-use crate::cause::{ActFault, Cause};
-use crate::naming::given_name;
-use crate::reading::formula_there;
-use crate::reduction::{Reduction, hyp_count, one, two};
-use crate::unfolding::boxed;
 use pg_base::Token;
 use pg_frames::Frame;
 use pg_goal::{Goal, Hyp, Lookup};
 use pg_kernel::Proof;
+use pg_reduction::{ActFault, Cause, Found, Reduction, boxed, changed_to, formula_there, given_name, hyp_count, hypothesis_of, one, two};
 use pg_script::Piece;
 use pg_terms::{Formula, Term};
 use sqlite_items::{Boxed, Items, at};
@@ -172,36 +169,6 @@ fn negation(alloc: Global, a: &Formula) -> Result<Boxed<Formula>, AllocError>
     let a = boxed(alloc, a)?;
     let falsum = Boxed::new(alloc, Formula::Falsum)?;
     Boxed::new(alloc, Formula::Imp(a, falsum))
-}
-
-/// A hypothesis with its number.
-#[derive(Clone, Copy)]
-pub struct Found<'g> {
-    pub number: u32,
-    pub hyp: &'g Hyp,
-}
-
-/// The live hypothesis of a name.
-pub fn hypothesis_of<'g>(goal: &'g Goal, name: &str) -> Option<Found<'g>>
-    requires { length goal.now.hyps < 2 ^ 32 }
-    ensures { option_map found_of result ≡ moves.hypothesis (goal_of goal.now) name.now }
-{
-    let number = goal.hypothesis_named(name)?;
-    let hyp = at(goal.hyps.as_slice(), number as usize)?;
-    Some(Found { number, hyp })
-}
-
-/// The goal in which a hypothesis is dead, and a new one of its name says this instead.
-fn changed_to(
-    alloc: Global,
-    goal: &Goal,
-    f: &Found<'_>,
-    a: Boxed<Formula>,
-) -> Result<Goal, AllocError>
-    ensures { IfOk result (λ g. goal_of g ≡ moves.changed_to (goal_of goal.now) (found_of f.now) (formula a)) }
-{
-    let without = goal.copied(alloc)?.without_hyp(alloc, f.number)?;
-    without.with_hyp(f.hyp.name.copied(alloc)?, a)
 }
 
 /// An equation, or the negation of one, with its sides swapped.

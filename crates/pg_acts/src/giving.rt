@@ -10,17 +10,14 @@ ghost use Rattle.pg_moves.specs.Closing.{given, closed_by};
 ghost use Rattle.pg_moves.specs.Frames.{whole, cut};
 ghost use Rattle.pg_goal.specs.Conditions.{IsCounted, AreTexts, IsProved};
 ghost use Rattle.pg_goal.specs.View.{goal_of, lookup_of};
-ghost use Rattle.pg_acts.specs.Doing.{IsReady, Does, Makes, Yields};
-ghost use Rattle.pg_acts.specs.Giving.{IsKnown, fault_cause, had_as, lent, said, stop_cause};
+ghost use Rattle.pg_reduction.specs.Doing.{IsReady, Does, Makes, Yields};
+ghost use Rattle.pg_reduction.specs.Giving.{fault_cause, said, stop_cause};
+ghost use Rattle.pg_acts.specs.Giving.{IsKnown, had_as, lent};
 
-use crate::cause::{ActFault, Cause, Measure};
-use crate::naming::given_name;
-use crate::reading::formula_there;
-use crate::reduction::{Reduction, one, shut};
-use crate::unfolding::boxed;
 use pg_base::Token;
 use pg_frames::Frame;
 use pg_goal::{ExprFault, Given, Goal, Lookup, gives};
+use pg_reduction::{ActFault, Cause, Measure, Reduction, boxed, formula_there, given_name, given_there, one, shut};
 use pg_script::{Expr, Piece};
 use sqlite_items::Items;
 use std::alloc::Global;
@@ -126,41 +123,4 @@ fn said_or_given(
         return Err(ActFault::Stop(Cause::NotSame { found: formula }));
     }
     Ok(Given { formula: a, proof })
-}
-
-/// What an expression gives, with its proof. It stops by the cause why it gives nothing.
-fn given_there(
-    alloc: Global,
-    goal: &Goal,
-    expr: &Expr<'_>,
-    lookup: &Lookup<'_>,
-) -> Result<Given, ActFault>
-    requires ready { IsReady (lookup_of lookup.now) (goal_of goal.now) }
-    requires counted { IsCounted (lookup_of lookup.now) (goal_of goal.now) }
-    requires texts { AreTexts (expression expr.now).args }
-    ensures yields { Yields said (given (lookup_of lookup.now) (goal_of goal.now) (expression expr.now)) result }
-    ensures proved { IfOk result (λ x. IsProved (lookup_of lookup.now) (goal_of goal.now) (said x) (proof x.proof)) }
-{
-    match gives(alloc, goal, expr, lookup) {
-        Ok(given) => Ok(given),
-        Err(fault) => Err(stop(fault)),
-    }
-}
-
-/// The cause that an expression gives nothing, or want of memory.
-fn stop(fault: ExprFault) -> ActFault
-    ensures { stop_cause result ≡ fault_cause fault }
-{
-    let cause = match fault {
-        ExprFault::NoSuchName { at } => Cause::NoSuchName { at },
-        ExprFault::Locked { theorem, .. } => Cause::LockedTheorem { theorem },
-        ExprFault::WrongArgument { at } => Cause::WrongArgument { at },
-        ExprFault::TooManyArguments { at } => Cause::WrongArgument { at },
-        ExprFault::TooLarge { size } => Cause::TooLarge {
-            measure: Measure::Nodes,
-            reached: size,
-        },
-        ExprFault::OutOfMemory => return ActFault::OutOfMemory,
-    };
-    ActFault::Stop(cause)
 }

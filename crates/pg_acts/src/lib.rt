@@ -3,22 +3,14 @@
 
 mod assuming;
 mod casing;
-mod cause;
 mod closing;
 mod giving;
 mod holding;
-mod limits;
-mod naming;
-mod reading;
-mod reduction;
 mod reverting;
 mod unfolding;
 
 pub use assuming::{assert, by_cases, symm, symm_at};
 pub use casing::cases_hypothesis;
-pub use cause::{ActFault, Cause, Measure};
 pub use closing::{constructor, exfalso, intro, left, rfl, right, witness};
 pub use giving::{exact, have};
-pub use limits::{Others, first_large, goal_nodes};
-pub use reduction::Reduction;
 pub use reverting::revert;

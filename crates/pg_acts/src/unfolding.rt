@@ -12,6 +12,7 @@ ghost use Rattle.pg_acts.specs.Opening.{opening};
 use pg_arith::Signature;
 use pg_frames::Frame;
 use pg_goal::{Goal, Lookup};
+use pg_reduction::boxed;
 use pg_terms::Formula;
 use sqlite_items::{Boxed, Items};
 use std::alloc::{AllocError, Global};
@@ -90,11 +91,4 @@ fn body(alloc: Global, sig: &Signature, a: &Formula) -> Result<Option<Boxed<Form
         }
         _ => Ok(None),
     }
-}
-
-/// An equal formula, in a box of its own.
-pub fn boxed(alloc: Global, a: &Formula) -> Result<Boxed<Formula>, AllocError>
-    ensures { IfOk result (λ r. r ≡ a.now) }
-{
-    Boxed::new(alloc, a.copied(alloc)?)
 }

@@ -19,7 +19,7 @@ use Rattle.pg_moves.specs.Runs.{Ran, hinted, focused, after_focus, run_item, run
 use Rattle.pg_goal.specs.View.{goal_of}
 use Rattle.pg_goal.specs.declared.goal.Goal.{Goal}
 use Rattle.pg_frames.specs.View.{frame_of, frames_of}
-use Rattle.pg_acts.specs.declared.cause.Cause.TheVariants as rust
+use Rattle.pg_reduction.specs.declared.cause.Cause.TheVariants as rust
 use Rattle.pg_runs.specs.State.{goals_of, Leads, HasRoom, HaveRoom, Carries}
 use Rattle.pg_runs.specs.Running.{IsTold, Runs, StopsAt}
 use Rattle.pg_runs.specs.Written.{AreWritten, AreWrittenIn}

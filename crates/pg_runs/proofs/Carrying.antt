@@ -1,29 +1,32 @@
 -- What a step does for frames, and for the room of goals.
 use Rattle.std.proofs.Common.{◌≡◌, ℕ, ◌+◌, ◌<◌, ◌≤◌, ◌^◌, List, [], ◌∷◌, ◌++◌, length, map, Option, Some, None, refl, sym, ap, ◌∙◌, subst, arith, inl, inr}
-use Rattle.std.specs.Prelude.{Ok, Err}
+use Rattle.std.specs.Prelude.{Ok, Err, flat_map, option_map}
+use Rattle.std.specs.Option.{option_or}
 use Rattle.std.specs.List.{AllByRecursion}
 use Rattle.std.proofs.lemmas.List.{append_assoc, map-append}
 use Rattle.std.proofs.lemmas.List.Elements.{All-from_recursion, recursion_from_All}
 use Rattle.pg_logic.specs.Tree.{Fm, nodes_of}
 use Rattle.pg_logic.specs.Signature.{Signature}
 use Rattle.pg_logic.specs.Declarations.{signature_of}
-use Rattle.pg_moves.specs.Goals.{Goal}
+use Rattle.pg_moves.specs.Goals.{Hyp, Goal}
 use Rattle.pg_moves.specs.Lookup.{Lookup, IsAvailable}
 use Rattle.pg_moves.specs.Laws.{IsSound, Justifies}
 use Rattle.pg_moves.specs.Acts.{Act}
-use Rattle.pg_moves.specs.Causes.{Cause, and_then, unless_wrong}
+use Rattle.pg_moves.specs.Causes.{Cause, Tried, and_then, unless_wrong}
 use Rattle.pg_moves.specs.Steps.{new_goals, acted}
-use Rattle.pg_moves.specs.Measures.{formulas, first_large, within_limits}
-use Rattle.pg_moves.specs.Proofs.{Sequent, sequent, Fits}
+use Rattle.pg_moves.specs.Measures.{formulas, first_over, goal_measures, block_measures, first_large, within_limits}
+use Rattle.pg_moves.specs.Proofs.{Sequent, sequent, hyp_formula, Fits}
 use Rattle.pg_moves.specs.Frames.{Frame, Turns}
 use Rattle.pg_moves.proofs.Turning.{turns-then}
-use Rattle.pg_acts.specs.Doing.{IsReady}
-use Rattle.pg_acts.specs.declared.reduction.Reduction.{Reduction}
-use Rattle.pg_acts.specs.View.{cause_of}
-use Rattle.pg_acts.specs.Limits.{told, Tells}
-use Rattle.pg_acts.specs.declared.cause.Cause.{Cause as RustCause}
+use Rattle.pg_goal.specs.Conditions.{IsCounted}
+use Rattle.pg_reduction.proofs.Large.{first-append}
+use Rattle.pg_reduction.specs.Doing.{IsReady, StopsWithin}
+use Rattle.pg_reduction.specs.declared.reduction.Reduction.{Reduction}
+use Rattle.pg_reduction.specs.View.{cause_of}
+use Rattle.pg_reduction.specs.Limits.{told, Tells}
+use Rattle.pg_reduction.specs.declared.cause.Cause.{Cause as RustCause}
 use Rattle.pg_runs.specs.Running.{StopsBy, IsReduced}
-use Rattle.pg_runs.specs.State.{goals_of, Leads, Carries, HasRoom, HaveRoom}
+use Rattle.pg_runs.specs.State.{goals_of, Leads, Carries, IsUsable, HasRoom, HaveRoom}
 use Rattle.pg_runs.specs.declared.state.State.{State}
 use Rattle.pg_frames.specs.View.{frame_of, frames_of}
 use Rattle.pg_runs.proofs.Limits.{IsSmall, within-small}
@@ -106,6 +109,30 @@ module _ (l : Lookup) where
       let q = recursion_from_All (HasRoom l 1) (g ∷ rest) r in
       record { sound = ok; fits = q.0.fits; vars = q.0.vars; hyps = omega (arith, q.0.hyps) }
 
+  fewer : (fs : List Fm) → AllByRecursion (λ a. nodes_of a < 2 ^ 29) fs → AllByRecursion (λ a. nodes_of a < 2 ^ 32) fs
+  fewer [] n = tt
+  fewer (a ∷ more) n = (omega (arith, n.0), fewer more n.1)
+
+  split-off : (hs : List Hyp) (t : Fm) → AllByRecursion (λ a. nodes_of a < 2 ^ 32) (map (λ (h : Hyp). h.formula) hs ++ t ∷ []) →
+      AllByRecursion (λ a. nodes_of a < 2 ^ 32) (map hyp_formula hs) × (nodes_of t < 2 ^ 32)
+  split-off [] t n = (tt, n.0)
+  split-off (h ∷ hs) t n = let q = split-off hs t n.1 in ((n.0, q.0), q.1)
+
+  -- and counted
+  pub counted : IsUsable l → (g : Goal) (rest : List Goal) → HaveRoom l 1 (g ∷ rest) → IsCounted l g × (nodes_of g.target < 2 ^ 32)
+  counted use g rest r =
+      let q = recursion_from_All (HasRoom l 1) (g ∷ rest) r in
+      let n = split-off g.hyps g.target (fewer (formulas g) (recursion_from_All (λ a. nodes_of a < 2 ^ 29) (formulas g) q.0.nodes)) in (
+        record {
+          names = use.names;
+          theorems = use.theorems;
+          vars = omega (arith, q.0.vars);
+          hyps = omega (arith, q.0.hyps);
+          formulas = All-from_recursion (λ a. nodes_of a < 2 ^ 32) (map hyp_formula g.hyps) n.0;
+        },
+        n.1,
+      )
+
   -- where the act stops, so does what it is part of
   pub act_stops : (g : Goal) (rest : List Goal) (a : Act) (e : Cause) → new_goals l g a ≡ Err e → acted l (g ∷ rest) a ≡ Err e
   act_stops g rest a e is = ap (λ r. and_then r (λ new. within_limits new (new ++ rest))) is
@@ -124,9 +151,22 @@ module _ (l : Lookup) where
   large_stops g rest new a None c is large t = absurd (cc)
   large_stops g rest new a (Some e) c is large t = let same : told e ≡ cause_of c = cc in subst (λ r. StopsBy r c) (sym (limit_stops g rest new a e is large)) (inr same)
 
-  -- an act that stops
-  pub stops : (g : Goal) (rest : List Goal) (a : Act) (c : RustCause) → new_goals l g a ≡ Err (cause_of c) → StopsBy (acted l (g ∷ rest) a) c
-  stops g rest a c is = subst (λ r. StopsBy r c) (sym (act_stops g rest a (cause_of c) is)) (inl refl)
+  -- a limit that the new goals pass by themselves
+  large_itself : (g : Goal) (rest new : List Goal) (a : Act) (c : RustCause) (o : Option Cause) → new_goals l g a ≡ Ok new → first_over (flat_map goal_measures new) ≡ o →
+      option_map told o ≡ Some (cause_of c) → StopsBy (acted l (g ∷ rest) a) c
+  large_itself g rest new a c None is e t = absurd (cc)
+  large_itself g rest new a c (Some w) is e t =
+      let block = block_measures (new ++ rest) in
+      let large = first-append (flat_map goal_measures new) block ∙ ap (λ o. option_or o (first_over block)) e in
+      let same : told w ≡ cause_of c = cc in subst (λ r. StopsBy r c) (sym (limit_stops g rest new a w is large)) (inr same)
+
+  -- an act that stops, by a limit perhaps
+  pub stops_within : (g : Goal) (rest : List Goal) (a : Act) (c : RustCause) → StopsWithin (new_goals l g a) c → StopsBy (acted l (g ∷ rest) a) c
+  stops_within g rest a c q = go (new_goals l g a) refl q
+    where
+      go : (r : Tried (List Goal)) → new_goals l g a ≡ r → StopsWithin r c → StopsBy (acted l (g ∷ rest) a) c
+      go (Err e) is q = subst (λ r. StopsBy r c) (sym (act_stops g rest a e is)) (inl q)
+      go (Ok new) is q = large_itself g rest new a c (first_over (flat_map goal_measures new)) is refl q
 
   -- nothing is too large
   pub within : (o : Option Cause) → Tells o None → o ≡ None

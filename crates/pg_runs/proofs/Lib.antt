@@ -2,7 +2,12 @@ pub mod Blocks
 pub mod Carrying
 pub mod Ending
 pub mod Introducing
+pub mod Lexed
 pub mod Limits
 pub mod Named
 pub mod Playing
+pub mod Read
+pub mod Shapely
+pub mod Spelled
 pub mod Stepping
+pub mod Texts

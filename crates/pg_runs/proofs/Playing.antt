@@ -13,7 +13,7 @@ use Rattle.pg_runs.specs.State.{goals_of, HasRoom, HaveRoom, Carries}
 use Rattle.pg_runs.specs.Running.{Steps, Runs, StopsBy, StopsAt}
 use Rattle.pg_runs.specs.declared.running.Stop.{Stop as RustStop}
 use Rattle.pg_moves.specs.Causes.{Tried, NoGoal}
-use Rattle.pg_acts.specs.View.{cause_of}
+use Rattle.pg_reduction.specs.View.{cause_of}
 use Rattle.pg_runs.specs.declared.state.State.{State}
 use Rattle.pg_runs.specs.declared.running.Halt.{Halt}
 use Rattle.pg_runs.specs.declared.running.Halt.TheVariants.{Stop}

@@ -13,10 +13,10 @@ use Rattle.pg_moves.specs.Lookup.{Lookup}
 use Rattle.pg_moves.specs.Steps.{step, move_there, acted}
 use Rattle.pg_goal.specs.View.{goal_of}
 use Rattle.pg_goal.specs.declared.goal.Goal.{Goal}
-use Rattle.pg_acts.specs.declared.cause.Cause.TheVariants.{NoGoal}
-use Rattle.pg_acts.specs.declared.cause.ActFault.{ActFault}
-use Rattle.pg_acts.specs.declared.cause.ActFault.TheVariants.{Stop, OutOfMemory}
-use Rattle.pg_acts.specs.declared.reduction.Reduction.{Reduction}
+use Rattle.pg_reduction.specs.declared.cause.Cause.TheVariants.{NoGoal}
+use Rattle.pg_reduction.specs.declared.cause.ActFault.{ActFault}
+use Rattle.pg_reduction.specs.declared.cause.ActFault.TheVariants.{Stop, OutOfMemory}
+use Rattle.pg_reduction.specs.declared.reduction.Reduction.{Reduction}
 use Rattle.pg_runs.specs.State.{goals_of}
 use Rattle.pg_runs.specs.Running.{CanMove, IsReduced, Steps, StopsBy}
 use Rattle.pg_runs.specs.declared.state.State.{State}

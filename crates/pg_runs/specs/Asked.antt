@@ -10,15 +10,15 @@ use Rattle.pg_syntax.specs.declared.statement.Statement.{Statement}
 use Rattle.pg_syntax.specs.Statements.{closed, AreFitting, total}
 use Rattle.pg_moves.specs.First.{first_vars}
 use Rattle.pg_moves.specs.Goals.{Goal}
-use Rattle.pg_moves.specs.Laws.{IsSound}
 use Rattle.pg_moves.specs.Lookup.{Lookup, IsAvailable}
 use Rattle.pg_moves.specs.Runs.{items_among, parts_among}
+use Rattle.pg_runs.specs.State.{IsUsable}
 use Rattle.pg_runs.specs.Written.{AreWritten}
 
--- The look-up is sound, the statement fits what is declared, and the script's tokens have texts of their kinds. Binders and
+-- The look-up can be used, the statement fits what is declared, and the script's tokens have texts of their kinds. Binders and
 -- nodes are fewer than 2^29, items fewer than 2^32, and variables and parts fewer than a context may have variables.
 pub record CanRun (l : Lookup) (st : Statement) (es : Entries) : Type 0 where
-  pub sound : IsSound l
+  pub usable : IsUsable l
   pub fits : AreFitting (signature_of l.declared) 0 st.binders.items (formula st.target)
   pub written : AreWritten es
   pub nodes : total st.binders.items (formula st.target) < 2 ^ 29

@@ -14,13 +14,13 @@ use Rattle.pg_moves.specs.Acts.{Act}
 use Rattle.pg_moves.specs.Measures.{first_large}
 use Rattle.pg_moves.specs.Steps.{acted}
 use Rattle.pg_worlds.specs.declared.tactic_name.TacticName.{TacticName}
-use Rattle.pg_acts.specs.Doing.{Reduces}
-use Rattle.pg_acts.specs.declared.reduction.Reduction.{Reduction}
-use Rattle.pg_acts.specs.Limits.{told}
-use Rattle.pg_acts.specs.View.{cause_of}
-use Rattle.pg_acts.specs.declared.cause.Cause.{Cause}
-use Rattle.pg_acts.specs.declared.cause.ActFault.{ActFault}
-use Rattle.pg_acts.specs.declared.cause.ActFault.TheVariants as act
+use Rattle.pg_reduction.specs.Doing.{Reduces}
+use Rattle.pg_reduction.specs.declared.reduction.Reduction.{Reduction}
+use Rattle.pg_reduction.specs.Limits.{told}
+use Rattle.pg_reduction.specs.View.{cause_of}
+use Rattle.pg_reduction.specs.declared.cause.Cause.{Cause}
+use Rattle.pg_reduction.specs.declared.cause.ActFault.{ActFault}
+use Rattle.pg_reduction.specs.declared.cause.ActFault.TheVariants as act
 use Rattle.pg_runs.specs.Asked.{IsProof}
 use Rattle.pg_runs.specs.State.{goals_of, Carries}
 use Rattle.pg_runs.specs.declared.state.State.{State}

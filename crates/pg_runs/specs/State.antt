@@ -4,6 +4,7 @@ use Rattle.pg_logic.specs.Declarations.{signature_of}
 use Rattle.pg_logic.specs.Tree.{nodes_of}
 use Rattle.pg_moves.specs.Measures.{formulas}
 use Rattle.pg_moves.specs.Goals as moves
+use Rattle.pg_moves.specs.Laws.{IsSound}
 use Rattle.pg_moves.specs.Lookup.{Lookup, IsAvailable}
 use Rattle.pg_moves.specs.Proofs.{Sequent, sequent, Fits}
 use Rattle.pg_syntax.specs.declared.statement.Binder.{Binder}
@@ -27,6 +28,12 @@ introduces (Hyp h a) = under_impi
 abbrev pub Leads : Lookup → List Frame → (old new : List moves.Goal) → Type 0
 Leads l fs old new =
     (below : List Sequent) → Turns (signature_of l.declared) l.theorems (IsAvailable l) fs (map sequent old ++ below) (map sequent new ++ below)
+
+-- The look-up is sound, and numbers of 32 bits count its names and the nodes of each theorem.
+pub record IsUsable (l : Lookup) : Type 0 where
+  pub sound : IsSound l
+  pub names : length l.names < 2 ^ 32
+  pub theorems : All (λ a. nodes_of a < 2 ^ 32) l.theorems
 
 -- A goal fits, and there is room for so many variables more. Its hypotheses and the nodes of each formula are fewer than 2^29.
 pub record HasRoom (l : Lookup) (room : ℕ) (g : moves.Goal) : Type 0 where

@@ -2,9 +2,11 @@
 #![tactic(auto)]
 
 mod act;
+mod laws;
 mod running;
 mod state;
 
 pub use act::Acts;
+pub use laws::{items_law, script_law};
 pub use running::{Outcome, Stop, run};
 pub use state::State;

@@ -12,18 +12,17 @@ ghost use Rattle.pg_kernel.specs.View.{proof as proof_in};
 ghost use Rattle.pg_syntax.specs.Statements.{closed, AreFitting, total};
 ghost use Rattle.pg_frames.specs.View.{frames_of};
 ghost use Rattle.pg_moves.specs.First.{first_goal};
-ghost use Rattle.pg_moves.specs.Laws.{IsSound};
 ghost use Rattle.pg_moves.specs.Runs as runs;
 ghost use Rattle.pg_moves.specs.Runs.{run, outcome, run_items, run_item, run_parts, items_in, items_among, parts_in, parts_among, focused, branched, hinted};
 ghost use Rattle.pg_goal.specs.View.{goal_of, lookup_of};
 ghost use Rattle.pg_runs.specs.Asked.{CanRun, asked, IsProof};
-ghost use Rattle.pg_runs.specs.State.{goals_of, HaveRoom, Leads};
+ghost use Rattle.pg_runs.specs.State.{goals_of, IsUsable, HaveRoom, Leads};
 ghost use Rattle.pg_runs.specs.Running.{Runs, Ends};
 ghost use Rattle.pg_runs.specs.Written.{IsWritten, AreWritten, AreWrittenIn};
 
 use crate::act::Acts;
 use crate::state::State;
-use pg_acts::{ActFault, Cause};
+use pg_reduction::{ActFault, Cause};
 use pg_frames::{Frame, finish};
 use pg_goal::{Goal, Lookup};
 use pg_kernel::{Checked, Proof, admit};
@@ -105,7 +104,7 @@ fn items<A: Acts>(
     items: &[Item<'_>],
     first: u32,
 ) -> Result<u32, Halt>
-    requires sound { IsSound (lookup_of lookup.now) }
+    requires usable { IsUsable (lookup_of lookup.now) }
     requires written { AreWritten (entries_of (map entry items.now)) }
     requires room { HaveRoom (lookup_of lookup.now) (parts_among (entries_of (map entry items.now))) (goals_of state.old.goals) }
     requires few { first + items_among (entries_of (map entry items.now)) < 2 ^ 32 }
@@ -129,7 +128,7 @@ fn item<A: Acts>(
     item: &Item<'_>,
     number: u32,
 ) -> Result<u32, Halt>
-    requires sound { IsSound (lookup_of lookup.now) }
+    requires usable { IsUsable (lookup_of lookup.now) }
     requires written { AreWrittenIn (entry item.now) }
     requires room { HaveRoom (lookup_of lookup.now) (parts_in (entry item.now)) (goals_of state.old.goals) }
     requires few { number + items_in (entry item.now) < 2 ^ 32 }
@@ -157,7 +156,7 @@ fn focus<A: Acts>(
     block: &[Item<'_>],
     number: u32,
 ) -> Result<u32, Halt>
-    requires sound { IsSound (lookup_of lookup.now) }
+    requires usable { IsUsable (lookup_of lookup.now) }
     requires written { AreWritten (entries_of (map entry block.now)) }
     requires room { HaveRoom (lookup_of lookup.now) (parts_among (entries_of (map entry block.now))) (goals_of state.old.goals) }
     requires few { number + items_among (entries_of (map entry block.now)) + 1 < 2 ^ 32 }
@@ -194,7 +193,7 @@ fn branch<A: Acts>(
     block: &[Item<'_>],
     number: u32,
 ) -> Result<u32, Halt>
-    requires sound { IsSound (lookup_of lookup.now) }
+    requires usable { IsUsable (lookup_of lookup.now) }
     requires written { AreWritten (entries_of (map entry block.now)) }
     requires room { HaveRoom (lookup_of lookup.now) (parts_among (entries_of (map entry block.now))) (goals_of state.old.goals) }
     requires few { number + items_among (entries_of (map entry block.now)) + 1 < 2 ^ 32 }
@@ -226,7 +225,7 @@ fn parts<A: Acts>(
     step: &MoveItem<'_>,
     number: u32,
 ) -> Result<(), Halt>
-    requires sound { IsSound (lookup_of lookup.now) }
+    requires usable { IsUsable (lookup_of lookup.now) }
     requires written { IsWritten (move_in step.now) }
     requires few { steps_of (shape step.now.form) < 2 ^ 32 }
     requires room { HaveRoom (lookup_of lookup.now) (steps_of (shape step.now.form)) (goals_of state.old.goals) }

@@ -2,22 +2,23 @@
 ghost use Rattle.std.specs.Prelude.{◌≡◌, ◌≢◌, ◌-◌, ◌^◌, min, ◌++◌, ◌∷◌, ◌<◌, [], IfOk, OnOk, Some, length, drop, slice_get};
 ghost use Rattle.pg_script.specs.View.{step as move_in, shape};
 ghost use Rattle.pg_moves.specs.Acts.{Act, acts_of};
+ghost use Rattle.pg_logic.specs.Tree.{nodes_of};
 ghost use Rattle.pg_terms.specs.View.{formula};
 ghost use Rattle.pg_moves.specs.First.{first_goal};
 ghost use Rattle.pg_moves.specs.Frames.{introduced};
-ghost use Rattle.pg_moves.specs.Laws.{IsSound};
 ghost use Rattle.pg_moves.specs.Steps.{step as step_of, move_there};
+ghost use Rattle.pg_goal.specs.Conditions.{IsCounted};
 ghost use Rattle.pg_goal.specs.View.{goal_of, lookup_of};
-ghost use Rattle.pg_acts.specs.Doing.{IsReady};
-ghost use Rattle.pg_acts.specs.Limits.{AreOthers};
+ghost use Rattle.pg_reduction.specs.Doing.{IsReady};
+ghost use Rattle.pg_reduction.specs.Limits.{AreOthers};
 ghost use Rattle.pg_moves.specs.Measures.{all_nodes};
 ghost use Rattle.pg_frames.specs.View.{frame_of, frames_of};
-ghost use Rattle.pg_runs.specs.State.{introduces, goals_of, HaveRoom};
+ghost use Rattle.pg_runs.specs.State.{introduces, goals_of, IsUsable, HaveRoom};
 ghost use Rattle.pg_runs.specs.Written.{IsWritten};
 ghost use Rattle.pg_runs.specs.Running.{Steps, CanMove, IsReduced};
 
 use crate::act::Acts;
-use pg_acts::{ActFault, Cause, Others, Reduction, first_large, goal_nodes};
+use pg_reduction::{ActFault, Cause, Others, Reduction, first_large, goal_nodes};
 use pg_frames::Frame;
 use pg_goal::{Goal, Lookup, initial};
 use pg_script::MoveItem;
@@ -78,7 +79,7 @@ impl State {
         part: u32,
         lookup: &Lookup<'_>,
     ) -> Result<(), ActFault>
-        requires sound { IsSound (lookup_of lookup.now) }
+        requires usable { IsUsable (lookup_of lookup.now) }
         requires part { part < length (acts_of step.now.head.now (shape step.now.form)) }
         requires written { IsWritten (move_in step.now) }
         requires room { HaveRoom (lookup_of lookup.now) 1 (goals_of self.old.goals) }
@@ -162,7 +163,7 @@ fn copied(alloc: Global, goals: &[Goal]) -> Result<Items<Goal>, AllocError>
 }
 
 /// What a part of a move makes of the first goal, before these others, within the limits.
-#[tactic(auto, using(crate::proofs::Carrying::stops, crate::proofs::Carrying::large_stops))]
+#[tactic(auto, using(crate::proofs::Carrying::stops_within, crate::proofs::Carrying::large_stops))]
 fn reduced<A: Acts>(
     acts: &A,
     alloc: Global,
@@ -173,7 +174,10 @@ fn reduced<A: Acts>(
     lookup: &Lookup<'_>,
 ) -> Result<Reduction, ActFault>
     requires ready { IsReady (lookup_of lookup.now) (goal_of goal.now) }
+    requires counted { IsCounted (lookup_of lookup.now) (goal_of goal.now) }
+    requires target { nodes_of (goal_of goal.now).target < 2 ^ 32 }
     requires written { IsWritten (move_in step.now) }
+    requires part { part < length (acts_of step.now.head.now (shape step.now.form)) }
     ensures { (a : Act) → slice_get (acts_of step.now.head.now (shape step.now.form)) part ≡ Some a → IsReduced (lookup_of lookup.now) (goal_of goal.now) (goals_of rest.now) a result }
 {
     let made = acts.act(alloc, goal, step, part, lookup)?;

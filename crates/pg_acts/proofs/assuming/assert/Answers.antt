@@ -4,7 +4,8 @@ use Rattle.pg_terms.specs.View.{formula}
 use Rattle.pg_moves.specs.Acts.{Assert}
 use Rattle.pg_moves.specs.Closing.{formula_there}
 use Rattle.pg_goal.specs.View.{goal_of, lookup_of}
-use Rattle.pg_acts.proofs.Does.{does-assert, unread-assert, handed}
+use Rattle.pg_reduction.proofs.Does.{handed}
+use Rattle.pg_acts.proofs.Does.{does-assert, unread-assert}
 use Rattle.pg_acts.proofs.assuming.assert.Goals as goal
 
 pub returns-in-Ok : goal.returns-in-Ok

@@ -4,7 +4,8 @@ use Rattle.pg_terms.specs.View.{formula}
 use Rattle.pg_moves.specs.Acts.{ByCases}
 use Rattle.pg_moves.specs.Closing.{formula_there}
 use Rattle.pg_goal.specs.View.{goal_of, lookup_of}
-use Rattle.pg_acts.proofs.Does.{does-by_cases, unread-by_cases, handed}
+use Rattle.pg_reduction.proofs.Does.{handed}
+use Rattle.pg_acts.proofs.Does.{does-by_cases, unread-by_cases}
 use Rattle.pg_acts.proofs.assuming.by_cases.Goals as goal
 
 pub returns-in-Ok : goal.returns-in-Ok

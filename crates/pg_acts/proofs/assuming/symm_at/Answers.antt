@@ -1,7 +1,7 @@
 use Rattle.std.proofs.Common.{sym}
 use Rattle.pg_base.specs.Tokens.{word}
 use Rattle.pg_goal.specs.View.{goal_of, lookup_of}
-use Rattle.pg_acts.specs.Named.{found_of}
+use Rattle.pg_reduction.specs.Named.{found_of}
 use Rattle.pg_acts.proofs.Does.{does-symm_at, unnamed-symm_at}
 use Rattle.pg_acts.proofs.assuming.symm_at.Goals as goal
 

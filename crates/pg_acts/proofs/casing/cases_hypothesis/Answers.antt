@@ -2,7 +2,7 @@ use Rattle.std.proofs.Common.{sym}
 use Rattle.pg_base.specs.Tokens.{word}
 use Rattle.pg_script.specs.View.{words}
 use Rattle.pg_goal.specs.View.{goal_of, lookup_of}
-use Rattle.pg_acts.specs.Named.{found_of}
+use Rattle.pg_reduction.specs.Named.{found_of}
 use Rattle.pg_acts.proofs.Does.{does-cases, unnamed-cases}
 use Rattle.pg_acts.proofs.casing.cases_hypothesis.Goals as goal
 

@@ -3,7 +3,8 @@ use Rattle.pg_terms.specs.View.{term}
 use Rattle.pg_moves.specs.Acts.{Witness}
 use Rattle.pg_moves.specs.Closing.{term_there}
 use Rattle.pg_goal.specs.View.{goal_of, lookup_of}
-use Rattle.pg_acts.proofs.Does.{does-witness, unread-witness, handed}
+use Rattle.pg_reduction.proofs.Does.{handed}
+use Rattle.pg_acts.proofs.Does.{does-witness, unread-witness}
 use Rattle.pg_acts.proofs.closing.witness.Goals as goal
 
 pub returns-in-Ok : goal.returns-in-Ok

@@ -3,8 +3,8 @@ use Rattle.pg_script.specs.View.{expression}
 use Rattle.pg_moves.specs.Acts.{Exact}
 use Rattle.pg_moves.specs.Closing.{given}
 use Rattle.pg_goal.specs.View.{goal_of, lookup_of}
-use Rattle.pg_acts.specs.Giving.{said}
-use Rattle.pg_acts.proofs.Does.{handed}
+use Rattle.pg_reduction.specs.Giving.{said}
+use Rattle.pg_reduction.proofs.Does.{handed}
 use Rattle.pg_acts.proofs.Known.{does-exact, stopped-exact}
 use Rattle.pg_acts.proofs.giving.exact.Goals as goal
 

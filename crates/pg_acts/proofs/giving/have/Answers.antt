@@ -5,8 +5,9 @@ use Rattle.pg_script.specs.View.{expression}
 use Rattle.pg_moves.specs.Acts.{Have}
 use Rattle.pg_moves.specs.Assuming.{said_or_given}
 use Rattle.pg_goal.specs.View.{goal_of, lookup_of}
-use Rattle.pg_acts.specs.Giving.{lent, said}
-use Rattle.pg_acts.proofs.Does.{handed}
+use Rattle.pg_reduction.specs.Giving.{said}
+use Rattle.pg_acts.specs.Giving.{lent}
+use Rattle.pg_reduction.proofs.Does.{handed}
 use Rattle.pg_acts.proofs.Known.{does-have, stopped-have}
 use Rattle.pg_acts.proofs.giving.have.Goals as goal
 

@@ -3,7 +3,7 @@ use Rattle.pg_base.specs.Tokens.{word}
 use Rattle.pg_terms.specs.View.{formula}
 use Rattle.pg_arith.specs.View.{signature}
 use Rattle.pg_goal.specs.View.{goal_of, lookup_of}
-use Rattle.pg_acts.specs.Named.{found_of}
+use Rattle.pg_reduction.specs.Named.{found_of}
 use Rattle.pg_acts.proofs.Does.{does-revert_hyp, does-revert_var, unnamed-revert}
 use Rattle.pg_acts.proofs.Held.{closable, all-closable}
 use Rattle.pg_acts.proofs.reverting.revert.Goals as goal

@@ -19,7 +19,7 @@ items-item-requires m t c =
       (
         q,
         (
-          c.requires.sound,
+          c.requires.usable,
           (
             blocks.written_at its i it c.loop-it-test.true c.it-item.is c.requires.written,
             (
@@ -50,7 +50,7 @@ focus-items-requires m t c =
       (
         q,
         (
-          c.requires.sound,
+          c.requires.usable,
           (
             c.requires.written,
             (

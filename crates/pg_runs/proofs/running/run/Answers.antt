@@ -20,7 +20,7 @@ items-requires-clause-room m c =
 
 pub ended-requires-clause-leads : goal.ended-requires-clause-leads
 ended-requires-clause-leads m c =
-    leads_whole (lookup_of c.args.lookup.now) c.args.statement.now _ c.in_ok-state.state c.items.new.state c.requires.sound c.requires.fits (omega (arith, c.requires.vars)) c.in_ok-state.ensures.frames c.in_ok-state.ensures.goals c.in-Ok.ensures.runs.1
+    leads_whole (lookup_of c.args.lookup.now) c.args.statement.now _ c.in_ok-state.state c.items.new.state c.requires.usable.sound c.requires.fits (omega (arith, c.requires.vars)) c.in_ok-state.ensures.frames c.in_ok-state.ensures.goals c.in-Ok.ensures.runs.1
 
 pub returns-in-Ok : goal.returns-in-Ok
 returns-in-Ok m c =

@@ -1,7 +1,7 @@
 use Rattle.std.proofs.Common.{◌-◌, ◌^◌}
 use Rattle.pg_moves.specs.Measures.{goal_nodes}
 use Rattle.pg_goal.specs.View.{goal_of}
-use Rattle.pg_acts.proofs.Large.{sum-done}
+use Rattle.pg_reduction.proofs.Large.{sum-done}
 use Rattle.pg_runs.proofs.state.all_nodes.Goals as goal
 
 pub returns : goal.returns

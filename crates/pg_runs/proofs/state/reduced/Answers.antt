@@ -1,7 +1,7 @@
 use Rattle.std.proofs.Common.{◌++◌, None, Some, refl, subst}
 use Rattle.pg_moves.specs.Measures.{first_large}
 use Rattle.pg_goal.specs.View.{goal_of, lookup_of}
-use Rattle.pg_acts.specs.Limits.{Tells}
+use Rattle.pg_reduction.specs.Limits.{Tells}
 use Rattle.pg_runs.specs.State.{goals_of}
 use Rattle.pg_runs.proofs.Carrying.{within, large_stops}
 use Rattle.pg_runs.proofs.state.reduced.Goals as goal

@@ -7,7 +7,7 @@ use Rattle.pg_goal.specs.declared.goal.Goal.{Goal}
 use Rattle.pg_goal.specs.View.{goal_of, lookup_of}
 use Rattle.pg_runs.specs.State.{goals_of, HaveRoom}
 use Rattle.pg_runs.specs.Running.{IsReduced, Steps}
-use Rattle.pg_runs.proofs.Carrying.{ready}
+use Rattle.pg_runs.proofs.Carrying.{ready, counted}
 use Rattle.pg_runs.proofs.Stepping.{first_of, none_of, rest_of, handed, cannot, no_goal, halted, done}
 use Rattle.pg_runs.proofs.state.State.step.Goals as goal
 
@@ -18,10 +18,12 @@ pub reduced-requires : goal.reduced-requires
 reduced-requires m c =
     let gs = c.args.self.now.goals in
     let here = subst (λ gs. goals_of gs ≡ goal_of c.goal-item.result ∷ goals_of (drop 1 gs)) c.as_slice.ensures (first_of c.as_slice.result.now c.goal-item.result c.goal-item.is c.in-len1-up.len_at_least) in
-    record {
-      ready = ready (lookup_of c.args.lookup.now) c.requires.sound (goal_of c.goal-item.result) (goals_of (drop 1 gs)) (subst (HaveRoom (lookup_of c.args.lookup.now) 1) here c.requires.room);
-      written = c.requires.written;
-    }
+    let l = lookup_of c.args.lookup.now in
+    let g = goal_of c.goal-item.result in
+    let rest = goals_of (drop 1 gs) in
+    let room = subst (HaveRoom l 1) here c.requires.room in
+    let n = counted l c.requires.usable g rest room in
+    record { ready = ready l c.requires.usable.sound g rest room; counted = n.0; target = n.1; written = c.requires.written; part = c.requires.part }
 
 pub returns-in_default : goal.returns-in_default
 returns-in_default m c = (

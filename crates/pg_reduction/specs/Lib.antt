@@ -1,0 +1,6 @@
+pub mod Doing
+pub mod Giving
+pub mod Limits
+pub mod Named
+pub mod Unread
+pub mod View
