@@ -22,6 +22,5 @@ pub fn determined(alloc: Global, found: &Found) -> Result<Items<Boxed<Term>>, Ma
     requires { length found.now.values < 2 ^ 32 }
     ensures { (names : List Name) → length names ≡ length found.now.values → Determines names (found_values found.now) result }
 {
-    let _ = (alloc, found);
     Err(MatchFault::OutOfMemory)
 }

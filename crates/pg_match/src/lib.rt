@@ -6,6 +6,7 @@ mod found;
 mod matching;
 mod replacing;
 mod searching;
+mod walking;
 
 pub use fault::MatchFault;
 pub use found::{Found, determined};

@@ -22,7 +22,6 @@ pub fn match_term(
     requires tight { IsTrue (is_tight 0 (term subject.now)) }
     ensures { IfOk result (λ o. option_map found_values o ≡ term_instance (term pattern.now) holes (term subject.now)) }
 {
-    let _ = (alloc, pattern, holes, subject);
     Err(AllocError)
 }
 
@@ -38,6 +37,5 @@ pub fn match_formula(
     requires tight { IsTrue (is_tight_formula 0 (formula subject.now)) }
     ensures { IfOk result (λ o. option_map found_values o ≡ formula_instance (formula pattern.now) holes (formula subject.now)) }
 {
-    let _ = (alloc, pattern, holes, subject);
     Err(AllocError)
 }

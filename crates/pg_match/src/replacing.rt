@@ -21,6 +21,5 @@ pub fn replaced(
 ) -> Result<Boxed<Formula>, MatchFault>
     ensures { Replaces (formula within.now) (term old.now) (term new.now) limit result }
 {
-    let _ = (alloc, within, old, new, limit);
     Err(MatchFault::OutOfMemory)
 }

@@ -25,6 +25,5 @@ pub fn first_instance(
     requires tight { IsTrue (is_tight_formula 0 (formula within.now)) }
     ensures { Finds (term pattern.now) holes (formula within.now) result }
 {
-    let _ = (alloc, pattern, holes, within);
     Err(MatchFault::OutOfMemory)
 }
