@@ -52,3 +52,97 @@ fn put_at<'a>(values: &mut [Option<&'a Term>], i: u64, subject: &'a Term) -> boo
         }
     }
 }
+
+/// Whether a subject may stand for the bound variable `j` of a pattern, under `depth` of the pattern's own
+/// binders.
+fn walk_bound<'a>(
+    values: &mut [Option<&'a Term>],
+    depth: u64,
+    j: u32,
+    subject: &'a Term,
+) -> bool
+    ensures { (d : ℕ) → depth ≡ min d (2 ^ 64 - 1) → Walked (walk_bound d (lent values.old) j (term subject.now)) result (lent values.new) }
+{
+    let j = u64::from(j);
+    if j >= depth {
+        return put_at(values, j - depth, subject);
+    }
+    match subject {
+        Term::Bound(k) => u64::from(*k) == j,
+        _ => false,
+    }
+}
+
+/// Whether a term may be the pattern, with these values of the holes. New values are put to them. The pattern
+/// stands under `depth` of its own binders.
+#[cycle(walk)]
+pub fn walk<'a>(
+    values: &mut [Option<&'a Term>],
+    depth: u64,
+    pattern: &Term,
+    subject: &'a Term,
+) -> bool
+    ensures { (d : ℕ) → depth ≡ min d (2 ^ 64 - 1) → Walked (walk d (lent values.old) (term pattern.now) (term subject.now)) result (lent values.new) }
+{
+    match (pattern, subject) {
+        (Term::Bound(j), _) => walk_bound(values, depth, *j, subject),
+        (Term::Free(i), Term::Free(k)) => *i == *k,
+        (Term::Zero, Term::Zero) => true,
+        (Term::Succ(p), Term::Succ(s)) => walk(values, depth, p.get(), s.get()),
+        (Term::App(f, ps), Term::App(g, ss)) => {
+            *f == *g && walk_all(values, depth, ps.as_slice(), ss.as_slice())
+        }
+        _ => false,
+    }
+}
+
+/// The same of lists of terms, in order.
+#[cycle(walk)]
+fn walk_all<'a>(
+    values: &mut [Option<&'a Term>],
+    depth: u64,
+    patterns: &[Term],
+    subjects: &'a [Term],
+) -> bool
+    ensures { (d : ℕ) → depth ≡ min d (2 ^ 64 - 1) → Walked (walk_all d (lent values.old) (args patterns.now) (args subjects.now)) result (lent values.new) }
+{
+    if patterns.len() != subjects.len() {
+        return false;
+    }
+    for (p, s) in patterns.iter().zip(subjects) {
+        if !walk(values, depth, p, s) {
+            return false;
+        }
+    }
+    true
+}
+
+/// The same of formulas, up to the names of binders.
+pub fn walk_formula<'a>(
+    values: &mut [Option<&'a Term>],
+    depth: u64,
+    pattern: &Formula,
+    subject: &'a Formula,
+) -> bool
+    ensures { (d : ℕ) → depth ≡ min d (2 ^ 64 - 1) → Walked (walk_formula d (lent values.old) (formula pattern.now) (formula subject.now)) result (lent values.new) }
+{
+    match (pattern, subject) {
+        (Formula::Falsum, Formula::Falsum) => true,
+        (Formula::Eq(p, q), Formula::Eq(s, t)) => {
+            walk(values, depth, p, s) && walk(values, depth, q, t)
+        }
+        (Formula::Pred(p, ps), Formula::Pred(q, ss)) => {
+            *p == *q && walk_all(values, depth, ps.as_slice(), ss.as_slice())
+        }
+        (Formula::And(p, q), Formula::And(a, b))
+        | (Formula::Or(p, q), Formula::Or(a, b))
+        | (Formula::Imp(p, q), Formula::Imp(a, b)) => {
+            walk_formula(values, depth, p.get(), a.get())
+                && walk_formula(values, depth, q.get(), b.get())
+        }
+        (Formula::All(_, p), Formula::All(_, a)) | (Formula::Ex(_, p), Formula::Ex(_, a)) => {
+            walk_formula(values, depth.saturating_add(1), p.get(), a.get())
+        }
+        _ => false,
+    }
+}
