@@ -1,2 +1,5 @@
+pub mod Joining
+pub mod Filling
+pub mod Meeting
 pub mod Lent
 pub mod Lists

@@ -22,5 +22,14 @@ pub fn determined(alloc: Global, found: &Found) -> Result<Items<Boxed<Term>>, Ma
     requires { length found.now.values < 2 ^ 32 }
     ensures { (names : List Name) → length names ≡ length found.now.values → Determines names (found_values found.now) result }
 {
-    Err(MatchFault::OutOfMemory)
+    let mut terms = Items::new(alloc);
+    let mut binder: u32 = 0;
+    for value in found.values.as_slice() {
+        match value {
+            None => return Err(MatchFault::Undetermined { binder }),
+            Some(t) => terms.push(Boxed::new(alloc, t.get().copied(alloc)?)?)?,
+        }
+        binder += 1;
+    }
+    Ok(terms)
 }
