@@ -4,7 +4,7 @@ use Rattle.std.specs.Borrow.{Bor}
 use Rattle.pg_logic.specs.Tree.{Tm, free, bound, nought, succ, app, Tms, none, arg, Fm, falsum, eq, pred, and, or, imp, all, ex, same, is_tight}
 use Rattle.pg_terms.specs.declared.term.Term.{Term}
 use Rattle.pg_terms.specs.View.{term}
-use Rattle.pg_moves.specs.Instances.{Values}
+use Rattle.pg_moves.specs.Instances.{Values, values_of}
 
 -- a value that is lent
 abbrev pub lend : Option (Bor Term) → Option Tm
@@ -13,6 +13,10 @@ lend v = option_map term (option_copied v)
 -- values that are lent
 abbrev pub lent : List (Option (Bor Term)) → Values
 lent vs = map lend vs
+
+-- no values of so many holes
+abbrev pub nones : ℕ → Values
+nones n = values_of n (λ i. None)
 
 -- the values if the test holds
 abbrev pub if_so : Bool → Values → Option Values
