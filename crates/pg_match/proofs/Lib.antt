@@ -5,3 +5,5 @@ pub mod Instancing
 pub mod Lent
 pub mod Lists
 pub mod Fixing
+pub mod Exchanged
+pub mod Firsts

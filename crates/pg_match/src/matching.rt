@@ -25,6 +25,19 @@ pub fn match_term(
     requires tight { IsTrue (is_tight 0 (term subject.now)) }
     ensures { IfOk result (λ o. option_map found_values o ≡ term_instance (term pattern.now) holes (term subject.now)) }
 {
+    instance(alloc, pattern, holes, subject)
+}
+
+/// The same of a subject that may hold bound variables.
+pub fn instance(
+    alloc: Global,
+    pattern: &Term,
+    holes: u32,
+    subject: &Term,
+) -> Result<Option<Found>, AllocError>
+    requires { IsTrue (is_tight holes (term pattern.now)) }
+    ensures { IfOk result (λ o. option_map found_values o ≡ term_instance (term pattern.now) holes (term subject.now)) }
+{
     let mut values = no_values(alloc, holes)?;
     found_term(alloc, &mut values, pattern, subject)
 }
