@@ -1,5 +1,5 @@
 // The values of holes.
-ghost use Rattle.std.specs.Prelude.{◌≡◌, ◌<◌, ◌^◌, List, length};
+ghost use Rattle.std.specs.Prelude.{◌≡◌, ◌<◌, ◌^◌, List, length, IfOk};
 ghost use Rattle.pg_logic.specs.Declarations.{Name};
 ghost use Rattle.pg_match.specs.View.{found_values};
 ghost use Rattle.pg_match.specs.Answers.{Determines};
@@ -7,7 +7,7 @@ ghost use Rattle.pg_match.specs.Answers.{Determines};
 use crate::fault::MatchFault;
 use pg_terms::Term;
 use sqlite_items::{Boxed, Items};
-use std::alloc::Global;
+use std::alloc::{AllocError, Global};
 
 /// The values of a pattern's holes: one place a hole, that of the outermost binder first. A hole that
 /// stands nowhere in the pattern has none.
@@ -27,9 +27,16 @@ pub fn determined(alloc: Global, found: &Found) -> Result<Items<Boxed<Term>>, Ma
     for value in found.values.as_slice() {
         match value {
             None => return Err(MatchFault::Undetermined { binder }),
-            Some(t) => terms.push(Boxed::new(alloc, t.get().copied(alloc)?)?)?,
+            Some(t) => terms.push(copied(alloc, t)?)?,
         }
         binder += 1;
     }
     Ok(terms)
+}
+
+/// An equal term, in a box of its own.
+fn copied(alloc: Global, t: &Boxed<Term>) -> Result<Boxed<Term>, AllocError>
+    ensures { IfOk result (λ r. r ≡ t.now) }
+{
+    Boxed::new(alloc, t.get().copied(alloc)?)
 }
