@@ -1,14 +1,12 @@
 -- Patterns with their holes filled, under d binders of their own.
-use Rattle.std.proofs.Common.{◌≡◌, ℕ, zero, suc, ◌+◌, ◌-◌, ◌<◌, ◌≤◌, List, [], ◌∷◌, length, Bool, true, false, ◌&&◌, Option, Some, None, refl, arith, ap, sym, ◌∙◌, subst, ⊎_elim}
-use Rattle.std.specs.Prelude.{if◌then◌else◌, ◌==◌, nat_eq, nat_lt, option_map, option_and_then, slice_get, slice_set}
+use Rattle.std.proofs.Common.{◌≡◌, ℕ, suc, ◌+◌, ◌-◌, ◌<◌, List, [], ◌∷◌, length, true, refl, arith, ap, sym, ◌∙◌, subst}
+use Rattle.std.specs.Prelude.{if◌then◌else◌, ◌==◌}
 use Rattle.std.specs.List.{AllByRecursion}
-use Rattle.std.proofs.lemmas.Bool.{and_parts, and_from, ltb-true, ltb-false, lt-ltb, eq-eqb, ne_eqb, cases_order, false≢true}
-use Rattle.pg_logic.specs.Tree.{Tm, free, bound, nought, succ, app, Tms, none, arg, same, same_all, Fm, falsum, eq, pred, and, or, imp, all, ex, same_formula, mapped, mapped_all, mapped_formula, kept_free, opened_bound, opened, opened_formula, is_tight, are_tight, is_tight_formula}
-use Rattle.pg_logic.proofs.Stable.{same-true}
-use Rattle.pg_moves.specs.Instances.{Values, filled, filled_formula, standing, standing_in, standing_formula}
+use Rattle.std.proofs.lemmas.Bool.{and_parts, ltb-true, eq-eqb, ne_eqb}
+use Rattle.pg_logic.specs.Tree.{Tm, free, bound, nought, succ, app, Tms, none, arg, Fm, falsum, eq, pred, and, or, imp, all, ex, mapped, mapped_all, mapped_formula, kept_free, opened_bound, opened, opened_formula, is_tight, are_tight}
+use Rattle.pg_moves.specs.Instances.{filled, filled_formula}
 use Rattle.pg_moves.proofs.Maps.{opened_here, opened_below}
 use Rattle.pg_moves.proofs.Filled.{opened_above}
-use Rattle.pg_moves.proofs.Rules.{same-refl}
 use Rattle.pg_match.proofs.Joining.{by_place}
 
 -- the terms hold no bound variable

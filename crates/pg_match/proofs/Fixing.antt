@@ -1,5 +1,5 @@
 -- The fixed values of binders, one after the other.
-use Rattle.std.proofs.Common.{◌≡◌, ℕ, zero, suc, ◌+◌, ◌<◌, ◌≤◌, List, [], ◌∷◌, ◌++◌, length, map, Option, Some, None, Ok, Err, refl, arith, ap, sym, ◌∙◌, subst, drop, get_or, add-one, length-append}
+use Rattle.std.proofs.Common.{◌≡◌, ℕ, zero, suc, ◌+◌, ◌<◌, List, [], ◌∷◌, ◌++◌, length, map, Option, Some, None, Ok, Err, refl, arith, ap, sym, ◌∙◌, subst, drop, get_or, add-one, length-append}
 use Rattle.std.specs.Prelude.{slice_get, option_map}
 use Rattle.std.proofs.lemmas.List.{length-map, map-append}
 use Rattle.pg_logic.specs.Tree.{Tm}
@@ -50,9 +50,9 @@ pub fixed_on : (items : List (Option Term)) (i : ℕ) (ts new : List Term) (v : 
     Fixed items (i + 1) new
 fixed_on items i ts new v t h lt is some made = (
   h.0 ∙ ap (λ l. map Some (terms ts) ++ l) (from_place items i v lt is ∙ ap (λ x. option_map term x ∷ drop (suc i) (values items)) some)
-  ∙ one_more (terms ts) (term t) (drop (suc i) (values items))
-  ∙ ap (λ l. map Some l ++ drop (suc i) (values items)) (sym (ap terms made ∙ map-append term ts (t ∷ [])))
-  ∙ ap (λ k. map Some (terms new) ++ drop k (values items)) (sym (add-one i)),
+      ∙ one_more (terms ts) (term t) (drop (suc i) (values items))
+      ∙ ap (λ l. map Some l ++ drop (suc i) (values items)) (sym (ap terms made ∙ map-append term ts (t ∷ [])))
+      ∙ ap (λ k. map Some (terms new) ++ drop k (values items)) (sym (add-one i)),
   ap length made ∙ length-append ts (t ∷ []) ∙ ap (λ k. k + 1) h.1,
 )
 
@@ -62,8 +62,8 @@ pub fixed_not : (items : List (Option Term)) (i : ℕ) (ts : List Term) (v : Opt
 fixed_not items i ts v h lt is none names long = (
   omega (arith, lt, long),
   λ x e.
-  ap (fixed names) (h.0 ∙ ap (λ l. map Some (terms ts) ++ l) (from_place items i v lt is ∙ ap (λ w. option_map term w ∷ drop (suc i) (values items)) none))
-  ∙ fixed-stops names (terms ts) (drop (suc i) (values items)) x (subst (λ k. slice_get names k ≡ Some x) (sym (length-map ts term ∙ h.1)) e),
+      ap (fixed names) (h.0 ∙ ap (λ l. map Some (terms ts) ++ l) (from_place items i v lt is ∙ ap (λ w. option_map term w ∷ drop (suc i) (values items)) none))
+      ∙ fixed-stops names (terms ts) (drop (suc i) (values items)) x (subst (λ k. slice_get names k ≡ Some x) (sym (length-map ts term ∙ h.1)) e),
 )
 
 -- all are

@@ -1,6 +1,6 @@
 -- The values after a walk: those before it, and what stands in the subject where the other holes stand first.
-use Rattle.std.proofs.Common.{◌≡◌, ◌≢◌, ℕ, zero, suc, ◌+◌, ◌-◌, ◌<◌, ◌≤◌, List, [], ◌∷◌, length, Bool, true, false, ◌&&◌, Option, Some, None, refl, arith, ap, sym, ◌∙◌, subst, ⊎_elim}
-use Rattle.std.specs.Prelude.{if◌then◌else◌, ◌==◌, nat_eq, nat_lt, option_map, option_and_then, slice_get, slice_set}
+use Rattle.std.proofs.Common.{◌≡◌, ℕ, suc, ◌+◌, ◌-◌, ◌<◌, [], ◌∷◌, length, Bool, true, false, Option, Some, None, refl, arith, ap, sym, ◌∙◌, subst, ⊎_elim}
+use Rattle.std.specs.Prelude.{if◌then◌else◌, ◌==◌, nat_lt, option_map, option_and_then, slice_get, slice_set}
 use Rattle.std.specs.Option.{option_or}
 use Rattle.std.specs.List.{list_all}
 use Rattle.std.proofs.lemmas.Bool.{and_parts, and_from, ltb-true, ltb-false, eq-eqb, ne_eqb, cases_order}
@@ -95,6 +95,7 @@ module _ (f : ℕ → Option Tm) (i : ℕ) (s : Tm) (at : f i ≡ Some s) (off :
     where
       rest : joined vs f ≡ vs
       rest = joined-nothing vs f (λ k lt. off k (λ q. omega (arith, e, q, lt)))
+
       so : (b : Bool) → is_tight 0 s ≡ b → Goes (None ∷ vs) f (if_so b (Some s ∷ vs))
       so false q = tt
       so true q = (sym (ap (λ o. o ∷ joined vs f) (ap f (sym e) ∙ at) ∙ ap (λ l. Some s ∷ l) rest), λ c. and_from _ _ q (and_parts true (list_all is_closed vs) c).1)
@@ -102,6 +103,7 @@ module _ (f : ℕ → Option Tm) (i : ℕ) (s : Tm) (at : f i ≡ Some s) (off :
     where
       rest : joined vs f ≡ vs
       rest = joined-nothing vs f (λ k lt. off k (λ q. omega (arith, e, q, lt)))
+
       so : (b : Bool) → Goes (Some t ∷ vs) f (if_so b (Some t ∷ vs))
       so false = tt
       so true = (sym (ap (λ l. Some t ∷ l) rest), λ c. c)

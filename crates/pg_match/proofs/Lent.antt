@@ -1,5 +1,5 @@
 -- Values that are lent, as values.
-use Rattle.std.proofs.Common.{◌≡◌, ℕ, zero, suc, ◌+◌, ◌-◌, [], ◌∷◌, ◌++◌, add-one, ◌<◌, List, length, map, Option, Some, None, true, refl, ap, sym, ◌∙◌, arith, slice_index_or, slice_set, Bor}
+use Rattle.std.proofs.Common.{◌≡◌, ℕ, zero, suc, ◌+◌, ◌-◌, [], ◌∷◌, ◌++◌, add-one, ◌<◌, List, length, Option, Some, None, true, refl, ap, sym, ◌∙◌, arith, slice_index_or, slice_set, Bor}
 use Rattle.std.specs.Prelude.{slice_get, option_map, if◌then◌else◌, nat_lt}
 use Rattle.std.proofs.lemmas.Bool.{lt-ltb}
 use Rattle.std.proofs.lemmas.List.{map-set, length-map}
@@ -29,6 +29,7 @@ none_more n vs new e is = ap lent is ∙ pushed vs ∙ ap (λ l. l ++ None ∷ [
     pushed : (vs : List (Option (Bor Term))) → lent (vs ++ None ∷ []) ≡ lent vs ++ None ∷ []
     pushed [] = refl
     pushed (v ∷ vs) = ap (λ l. lend v ∷ l) (pushed vs)
+
     more : (n : ℕ) → nones n ++ None ∷ [] ≡ nones (suc n)
     more zero = refl
     more (suc n) = ap (λ l. None ∷ l) (more n)

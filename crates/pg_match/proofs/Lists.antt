@@ -1,7 +1,6 @@
 -- Lists of patterns and of subjects.
 use Rattle.std.proofs.Common.{◌≡◌, ◌≢◌, ℕ, suc, List, [], ◌∷◌, length, Option, Some, None, refl, ap}
 use Rattle.std.specs.Prelude.{option_and_then}
-use Rattle.pg_logic.specs.Tree.{Tms}
 use Rattle.pg_terms.specs.declared.term.Term.{Term}
 use Rattle.pg_terms.specs.View.{term, args}
 use Rattle.pg_moves.specs.Instances.{Values}

@@ -1,14 +1,14 @@
 -- A walk goes through exactly where some terms make the subject, and its values are then among them.
-use Rattle.std.proofs.Common.{◌≡◌, ℕ, zero, suc, ◌+◌, ◌-◌, ◌<◌, ◌≤◌, List, [], ◌∷◌, length, Bool, true, false, ◌&&◌, Option, Some, None, refl, arith, ap, sym, ◌∙◌, subst}
+use Rattle.std.proofs.Common.{◌≡◌, ℕ, suc, ◌+◌, ◌-◌, ◌<◌, ◌≤◌, List, [], ◌∷◌, length, Bool, true, false, ◌&&◌, Option, Some, None, refl, arith, ap, sym, ◌∙◌, subst}
 use Rattle.std.specs.Prelude.{if◌then◌else◌, ◌==◌, nat_lt, option_map, option_and_then}
 use Rattle.std.proofs.Math.Bool.{and-false}
 use Rattle.std.proofs.lemmas.Bool.{and_parts, ltb-true, ltb-false, lt-ltb, false≢true}
 use Rattle.pg_logic.specs.Tree.{Tm, free, bound, nought, succ, app, Tms, none, arg, same, same_all, Fm, falsum, eq, pred, and, or, imp, all, ex, same_formula, is_tight, are_tight, is_tight_formula}
 use Rattle.pg_logic.proofs.Stable.{same-true}
-use Rattle.pg_moves.specs.Instances.{Values, standing, standing_in, standing_formula}
+use Rattle.pg_moves.specs.Instances.{Values, standing, standing_formula}
 use Rattle.pg_moves.proofs.Rules.{same-refl}
 use Rattle.pg_match.specs.Walks.{if_so, put_at, walk_bound, walk, walk_all, walk_formula}
-use Rattle.pg_match.proofs.Joining.{joined-long, Goes, walk-goes, walk_all-goes, formula-goes, put_there, there-cons, by_place}
+use Rattle.pg_match.proofs.Joining.{joined-long, Goes, walk-goes, formula-goes, put_there, there-cons, by_place}
 use Rattle.pg_match.proofs.Filling.{AreTight, within, all_within, formula_within, value, value-first, value-later, fills, within-succ, within-app, within-arg, within-none, within-free, within-nought, within-below, within-falsum, within-eq, within-pred, within-and, within-or, within-imp, within-all, within-ex}
 
 -- whether a term may stand for a hole with this value

@@ -1,5 +1,5 @@
 -- What the calls answer, against the definitions. Only want of memory is free.
-use Rattle.std.specs.Prelude.{ℕ, ◌≡◌, ◌≤◌, ◌<◌, ◌-◌, ◌^◌, min, Bool, true, false, List, length, Option, Some, None, Result, Ok, Err, slice_get}
+use Rattle.std.specs.Prelude.{ℕ, ◌≡◌, ◌≤◌, ◌<◌, ◌-◌, ◌^◌, min, Bool, true, false, List, length, Some, None, Result, Ok, Err, slice_get}
 use Rattle.pg_logic.specs.Tree.{Tm, bound, Fm, nodes_of}
 use Rattle.pg_logic.specs.Declarations.{Name}
 use Rattle.pg_terms.specs.declared.term.Term.{Term}

@@ -1,5 +1,5 @@
 -- Of use inside: a pattern and a subject read side by side, with the values of the holes so far.
-use Rattle.std.specs.Prelude.{ℕ, ◌+◌, ◌-◌, ◌≡◌, Bool, true, false, ◌&&◌, List, length, map, Option, Some, None, option_map, option_copied, option_and_then, ◌==◌, nat_lt, slice_get, slice_set, if◌then◌else◌}
+use Rattle.std.specs.Prelude.{ℕ, ◌+◌, ◌-◌, ◌≡◌, Bool, true, false, List, length, map, Option, Some, None, option_map, option_copied, option_and_then, ◌==◌, nat_lt, slice_get, slice_set, if◌then◌else◌}
 use Rattle.std.specs.Borrow.{Bor}
 use Rattle.pg_logic.specs.Tree.{Tm, free, bound, nought, succ, app, Tms, none, arg, Fm, falsum, eq, pred, and, or, imp, all, ex, same, is_tight}
 use Rattle.pg_terms.specs.declared.term.Term.{Term}

@@ -96,17 +96,13 @@ fn no_values<'a>(alloc: Global, holes: u32) -> Result<Vec<Option<&'a Term>>, All
 {
     let mut values = Vec::new(alloc);
     for hole in 0..holes {
-        let _ = hole;
         values.push(None)?;
     }
     Ok(values)
 }
 
 /// Copies of the values.
-fn copies(
-    alloc: Global,
-    stood: &[Option<&Term>],
-) -> Result<Items<Option<Boxed<Term>>>, AllocError>
+fn copies(alloc: Global, stood: &[Option<&Term>]) -> Result<Items<Option<Boxed<Term>>>, AllocError>
     ensures { IfOk result (λ vs. values vs ≡ lent stood.now) }
 {
     let mut values = Items::new(alloc);

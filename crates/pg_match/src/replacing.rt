@@ -89,12 +89,7 @@ fn all_size(ts: &[Term], old: &Term, by: u64) -> u64
 }
 
 /// The formula with the new term for the old one.
-fn changed(
-    alloc: Global,
-    a: &Formula,
-    old: &Term,
-    new: &Term,
-) -> Result<Boxed<Formula>, AllocError>
+fn changed(alloc: Global, a: &Formula, old: &Term, new: &Term) -> Result<Boxed<Formula>, AllocError>
     ensures { IfOk result (λ r. formula r ≡ replaced_formula (term old.now) (term new.now) (formula a.now)) }
 {
     match a {

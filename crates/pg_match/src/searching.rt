@@ -105,12 +105,7 @@ fn in_sides(
 /// The same within a term.
 #[cycle(search)]
 #[tactic(auto, using(crate::proofs::Firsts::at_once, crate::proofs::Firsts::further))]
-fn in_term(
-    alloc: Global,
-    t: &Term,
-    pattern: &Term,
-    holes: u32,
-) -> Result<Option<Found>, AllocError>
+fn in_term(alloc: Global, t: &Term, pattern: &Term, holes: u32) -> Result<Option<Found>, AllocError>
     requires { IsTrue (is_tight holes (term pattern.now)) }
     ensures { IfOk result (λ o. option_map found_values o ≡ first_found (term_instance (term pattern.now) holes) (subterms (term t.now))) }
 {

@@ -55,12 +55,7 @@ fn put_at<'a>(values: &mut [Option<&'a Term>], i: u64, subject: &'a Term) -> boo
 
 /// Whether a subject may stand for the bound variable `j` of a pattern, under `depth` of the pattern's own
 /// binders.
-fn walk_bound<'a>(
-    values: &mut [Option<&'a Term>],
-    depth: u64,
-    j: u32,
-    subject: &'a Term,
-) -> bool
+fn walk_bound<'a>(values: &mut [Option<&'a Term>], depth: u64, j: u32, subject: &'a Term) -> bool
     ensures { (d : ℕ) → depth ≡ min d (2 ^ 64 - 1) → Walked (walk_bound d (lent values.old) j (term subject.now)) result (lent values.new) }
 {
     let j = u64::from(j);

@@ -24,8 +24,8 @@ pub loop-value-preserved : goal.loop-value-preserved
 loop-value-preserved c = record {
   count = ap (λ (k : ℕ). k + 1) c.loop-value.invariant.count;
   so_far =
-    fixed_on c.as_slice-value-items.result.now c.loop-value.value-index c.loop-value.terms c.push.new.self c.value-item.result c.in_ok-copied-in-Some.field-0 c.loop-value.invariant.so_far
-    c.loop-value-test.true c.value-item.is (c.in-Some.is ∙ ap Some (sym c.in_ok-copied-in-Some.ensures)) c.in_ok-push-in-Some.ensures.ok;
+      fixed_on c.as_slice-value-items.result.now c.loop-value.value-index c.loop-value.terms c.push.new.self c.value-item.result c.in_ok-copied-in-Some.field-0 c.loop-value.invariant.so_far
+      c.loop-value-test.true c.value-item.is (c.in-Some.is ∙ ap Some (sym c.in_ok-copied-in-Some.ensures)) c.in_ok-push-in-Some.ensures.ok;
 }
 
 pub returns : goal.returns
