@@ -1,0 +1,9 @@
+pub mod Joining
+pub mod Filling
+pub mod Meeting
+pub mod Instancing
+pub mod Lent
+pub mod Lists
+pub mod Fixing
+pub mod Exchanged
+pub mod Firsts

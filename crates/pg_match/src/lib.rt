@@ -1,0 +1,15 @@
+//! Instances of patterns, and terms replaced by others.
+#![tactic(auto)]
+
+mod fault;
+mod found;
+mod matching;
+mod replacing;
+mod searching;
+mod walking;
+
+pub use fault::MatchFault;
+pub use found::{Found, determined};
+pub use matching::{match_formula, match_term};
+pub use replacing::replaced;
+pub use searching::first_instance;
