@@ -20,7 +20,10 @@ use pg_base::Token;
 use pg_frames::Frame;
 use pg_goal::{Goal, Hyp, Lookup};
 use pg_kernel::Proof;
-use pg_reduction::{ActFault, Cause, Found, Reduction, boxed, changed_to, formula_there, given_name, hyp_count, hypothesis_of, one, two};
+use pg_reduction::{
+    ActFault, Cause, Found, Reduction, boxed, changed_to, formula_there, given_name, hyp_count,
+    hypothesis_of, one, two,
+};
 use pg_script::Piece;
 use pg_terms::{Formula, Term};
 use sqlite_items::{Boxed, Items, at};

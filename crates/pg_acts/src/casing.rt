@@ -25,7 +25,9 @@ use pg_base::Token;
 use pg_frames::Frame;
 use pg_goal::{Goal, Lookup};
 use pg_kernel::Proof;
-use pg_reduction::{ActFault, Cause, Found, Reduction, boxed, hypothesis_of, new_name, one, shut, two, var_count};
+use pg_reduction::{
+    ActFault, Cause, Found, Reduction, boxed, hypothesis_of, new_name, one, shut, two, var_count,
+};
 use pg_terms::{Formula, Name, Term};
 use sqlite_items::{Boxed, Items, at};
 use std::alloc::{AllocError, Global};

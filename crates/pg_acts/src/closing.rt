@@ -23,7 +23,9 @@ use pg_base::Token;
 use pg_frames::Frame;
 use pg_goal::{Goal, Lookup};
 use pg_kernel::Proof;
-use pg_reduction::{ActFault, Cause, Reduction, boxed, given_name, one, shut, term_there, two, var_count};
+use pg_reduction::{
+    ActFault, Cause, Reduction, boxed, given_name, one, shut, term_there, two, var_count,
+};
 use pg_script::Piece;
 use pg_terms::{Formula, Name, Term};
 use sqlite_items::{Boxed, Items};

@@ -17,7 +17,9 @@ ghost use Rattle.pg_acts.specs.Giving.{IsKnown, had_as, lent};
 use pg_base::Token;
 use pg_frames::Frame;
 use pg_goal::{ExprFault, Given, Goal, Lookup, gives};
-use pg_reduction::{ActFault, Cause, Measure, Reduction, boxed, formula_there, given_name, given_there, one, shut};
+use pg_reduction::{
+    ActFault, Cause, Measure, Reduction, boxed, formula_there, given_name, given_there, one, shut,
+};
 use pg_script::{Expr, Piece};
 use sqlite_items::Items;
 use std::alloc::Global;

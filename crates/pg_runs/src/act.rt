@@ -8,8 +8,8 @@ ghost use Rattle.pg_goal.specs.View.{goal_of, lookup_of};
 ghost use Rattle.pg_reduction.specs.Doing.{DoesWithin, IsReady};
 ghost use Rattle.pg_runs.specs.Written.{IsWritten};
 
-use pg_reduction::{ActFault, Reduction};
 use pg_goal::{Goal, Lookup};
+use pg_reduction::{ActFault, Reduction};
 use pg_script::MoveItem;
 use std::alloc::Global;
 

@@ -22,10 +22,10 @@ ghost use Rattle.pg_runs.specs.Written.{IsWritten, AreWritten, AreWrittenIn};
 
 use crate::act::Acts;
 use crate::state::State;
-use pg_reduction::{ActFault, Cause};
 use pg_frames::{Frame, finish};
 use pg_goal::{Goal, Lookup};
 use pg_kernel::{Checked, Proof, admit};
+use pg_reduction::{ActFault, Cause};
 use pg_script::{Form, Item, MoveItem, Script};
 use pg_syntax::{Statement, statement_formula};
 use sqlite_items::{Boxed, Items};

@@ -18,9 +18,9 @@ ghost use Rattle.pg_runs.specs.Written.{IsWritten};
 ghost use Rattle.pg_runs.specs.Running.{Steps, CanMove, IsReduced};
 
 use crate::act::Acts;
-use pg_reduction::{ActFault, Cause, Others, Reduction, first_large, goal_nodes};
 use pg_frames::Frame;
 use pg_goal::{Goal, Lookup, initial};
+use pg_reduction::{ActFault, Cause, Others, Reduction, first_large, goal_nodes};
 use pg_script::MoveItem;
 use pg_syntax::{Binder, Statement};
 use pg_terms::Name;
