@@ -120,12 +120,12 @@ module _ (l : Lookup) where
 
   -- and counted
   pub counted : IsUsable l → (g : Goal) (rest : List Goal) → HaveRoom l 1 (g ∷ rest) → IsCounted l g × (nodes_of g.target < 2 ^ 32)
-  counted use g rest r =
+  counted ok g rest r =
       let q = recursion_from_All (HasRoom l 1) (g ∷ rest) r in
       let n = split-off g.hyps g.target (fewer (formulas g) (recursion_from_All (λ a. nodes_of a < 2 ^ 29) (formulas g) q.0.nodes)) in (
         record {
-          names = use.names;
-          theorems = use.theorems;
+          names = ok.names;
+          theorems = ok.theorems;
           vars = omega (arith, q.0.vars);
           hyps = omega (arith, q.0.hyps);
           formulas = All-from_recursion (λ a. nodes_of a < 2 ^ 32) (map hyp_formula g.hyps) n.0;
