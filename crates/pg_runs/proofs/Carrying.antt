@@ -1,6 +1,6 @@
 -- What a step does for frames, and for the room of goals.
 use Rattle.std.proofs.Common.{◌≡◌, ℕ, ◌+◌, ◌<◌, ◌≤◌, ◌^◌, List, [], ◌∷◌, ◌++◌, length, map, Option, Some, None, refl, sym, ap, ◌∙◌, subst, arith, inl, inr}
-use Rattle.std.specs.Prelude.{Ok, Err, flat_map, option_map}
+use Rattle.std.specs.Prelude.{All, Ok, Err, flat_map, option_map}
 use Rattle.std.specs.Option.{option_or}
 use Rattle.std.specs.List.{AllByRecursion}
 use Rattle.std.proofs.lemmas.List.{append_assoc, map-append}
@@ -113,24 +113,23 @@ module _ (l : Lookup) where
   fewer [] n = tt
   fewer (a ∷ more) n = (omega (arith, n.0), fewer more n.1)
 
-  split-off : (hs : List Hyp) (t : Fm) → AllByRecursion (λ a. nodes_of a < 2 ^ 32) (map (λ (h : Hyp). h.formula) hs ++ t ∷ []) →
-      AllByRecursion (λ a. nodes_of a < 2 ^ 32) (map hyp_formula hs) × (nodes_of t < 2 ^ 32)
-  split-off [] t n = (tt, n.0)
-  split-off (h ∷ hs) t n = let q = split-off hs t n.1 in ((n.0, q.0), q.1)
+  before-target : (hs : List Hyp) (t : Fm) → AllByRecursion (λ a. nodes_of a < 2 ^ 32) (map (λ (h : Hyp). h.formula) hs ++ t ∷ []) → AllByRecursion (λ a. nodes_of a < 2 ^ 32) (map hyp_formula hs)
+  before-target [] t n = tt
+  before-target (h ∷ hs) t n = (n.0, before-target hs t n.1)
 
   -- and counted
-  pub counted : IsUsable l → (g : Goal) (rest : List Goal) → HaveRoom l 1 (g ∷ rest) → IsCounted l g × (nodes_of g.target < 2 ^ 32)
+  pub counted : IsUsable l → (g : Goal) (rest : List Goal) → HaveRoom l 1 (g ∷ rest) → IsCounted l g × All (λ a. nodes_of a < 2 ^ 29) (formulas g)
   counted ok g rest r =
       let q = recursion_from_All (HasRoom l 1) (g ∷ rest) r in
-      let n = split-off g.hyps g.target (fewer (formulas g) (recursion_from_All (λ a. nodes_of a < 2 ^ 29) (formulas g) q.0.nodes)) in (
+      let n = before-target g.hyps g.target (fewer (formulas g) (recursion_from_All (λ a. nodes_of a < 2 ^ 29) (formulas g) q.0.nodes)) in (
         record {
           names = ok.names;
           theorems = ok.theorems;
           vars = omega (arith, q.0.vars);
           hyps = omega (arith, q.0.hyps);
-          formulas = All-from_recursion (λ a. nodes_of a < 2 ^ 32) (map hyp_formula g.hyps) n.0;
+          formulas = All-from_recursion (λ a. nodes_of a < 2 ^ 32) (map hyp_formula g.hyps) n;
         },
-        n.1,
+        q.0.nodes,
       )
 
   -- where the act stops, so does what it is part of

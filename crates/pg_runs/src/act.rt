@@ -1,8 +1,9 @@
 // The acts that moves are made of.
-ghost use Rattle.std.specs.Prelude.{◌≡◌, ◌<◌, ◌^◌, Some, length, slice_get};
+ghost use Rattle.std.specs.Prelude.{◌≡◌, ◌<◌, ◌^◌, All, Some, length, slice_get};
 ghost use Rattle.pg_logic.specs.Tree.{nodes_of};
 ghost use Rattle.pg_script.specs.View.{step as move_in, shape};
 ghost use Rattle.pg_moves.specs.Acts.{Act, acts_of};
+ghost use Rattle.pg_moves.specs.Measures.{formulas};
 ghost use Rattle.pg_goal.specs.Conditions.{IsCounted};
 ghost use Rattle.pg_goal.specs.View.{goal_of, lookup_of};
 ghost use Rattle.pg_reduction.specs.Doing.{DoesWithin, IsReady};
@@ -29,7 +30,7 @@ pub trait Acts {
     ) -> Result<Reduction, ActFault>
         requires ready { IsReady (lookup_of lookup.now) (goal_of goal.now) }
         requires counted { IsCounted (lookup_of lookup.now) (goal_of goal.now) }
-        requires target { nodes_of (goal_of goal.now).target < 2 ^ 32 }
+        requires small { All (λ a. nodes_of a < 2 ^ 29) (formulas (goal_of goal.now)) }
         requires written { IsWritten (move_in step.now) }
         requires part { part < length (acts_of step.now.head.now (shape step.now.form)) }
         ensures { (a : Act) → slice_get (acts_of step.now.head.now (shape step.now.form)) part ≡ Some a → DoesWithin (lookup_of lookup.now) (goal_of goal.now) a result };

@@ -1,5 +1,5 @@
 // A block of goals, and the proof in the making.
-ghost use Rattle.std.specs.Prelude.{◌≡◌, ◌≢◌, ◌-◌, ◌^◌, min, ◌++◌, ◌∷◌, ◌<◌, [], IfOk, OnOk, Some, length, drop, slice_get};
+ghost use Rattle.std.specs.Prelude.{◌≡◌, All, ◌≢◌, ◌-◌, ◌^◌, min, ◌++◌, ◌∷◌, ◌<◌, [], IfOk, OnOk, Some, length, drop, slice_get};
 ghost use Rattle.pg_script.specs.View.{step as move_in, shape};
 ghost use Rattle.pg_moves.specs.Acts.{Act, acts_of};
 ghost use Rattle.pg_logic.specs.Tree.{nodes_of};
@@ -11,7 +11,7 @@ ghost use Rattle.pg_goal.specs.Conditions.{IsCounted};
 ghost use Rattle.pg_goal.specs.View.{goal_of, lookup_of};
 ghost use Rattle.pg_reduction.specs.Doing.{IsReady};
 ghost use Rattle.pg_reduction.specs.Limits.{AreOthers};
-ghost use Rattle.pg_moves.specs.Measures.{all_nodes};
+ghost use Rattle.pg_moves.specs.Measures.{all_nodes, formulas};
 ghost use Rattle.pg_frames.specs.View.{frame_of, frames_of};
 ghost use Rattle.pg_runs.specs.State.{introduces, goals_of, IsUsable, HaveRoom};
 ghost use Rattle.pg_runs.specs.Written.{IsWritten};
@@ -175,7 +175,7 @@ fn reduced<A: Acts>(
 ) -> Result<Reduction, ActFault>
     requires ready { IsReady (lookup_of lookup.now) (goal_of goal.now) }
     requires counted { IsCounted (lookup_of lookup.now) (goal_of goal.now) }
-    requires target { nodes_of (goal_of goal.now).target < 2 ^ 32 }
+    requires small { All (λ a. nodes_of a < 2 ^ 29) (formulas (goal_of goal.now)) }
     requires written { IsWritten (move_in step.now) }
     requires part { part < length (acts_of step.now.head.now (shape step.now.form)) }
     ensures { (a : Act) → slice_get (acts_of step.now.head.now (shape step.now.form)) part ≡ Some a → IsReduced (lookup_of lookup.now) (goal_of goal.now) (goals_of rest.now) a result }

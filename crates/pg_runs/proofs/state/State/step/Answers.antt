@@ -23,7 +23,7 @@ reduced-requires m c =
     let rest = goals_of (drop 1 gs) in
     let room = subst (HaveRoom l 1) here c.requires.room in
     let n = counted l c.requires.usable g rest room in
-    record { ready = ready l c.requires.usable.sound g rest room; counted = n.0; target = n.1; written = c.requires.written; part = c.requires.part }
+    record { ready = ready l c.requires.usable.sound g rest room; counted = n.0; small = n.1; written = c.requires.written; part = c.requires.part }
 
 pub returns-in_default : goal.returns-in_default
 returns-in_default m c = (
