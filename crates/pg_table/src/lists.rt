@@ -1,7 +1,7 @@
 // The moves whose parts stand in a list: `intro`, `rw` and `use`.
 ghost use Rattle.std.specs.Prelude.{◌≡◌, ◌<◌, All, Some, length, map, option_map, slice_get};
 ghost use Rattle.pg_script.specs.Data.{Rule};
-ghost use Rattle.pg_script.specs.View.{part as part_in, rule, words};
+ghost use Rattle.pg_script.specs.View.{part as part_in, rule as rule_in, words};
 ghost use Rattle.pg_moves.specs.Acts.{Act, Intro, Witness, rewrite_act};
 ghost use Rattle.pg_goal.specs.Conditions.{IsCounted, AreTexts};
 ghost use Rattle.pg_goal.specs.View.{goal_of, lookup_of};
@@ -67,9 +67,9 @@ pub fn rewritten(
 ) -> Result<Reduction, ActFault>
     requires ready { IsReady (lookup_of lookup.now) (goal_of goal.now) }
     requires counted { IsCounted (lookup_of lookup.now) (goal_of goal.now) }
-    requires texts { All (λ (r : Rule). HaveTexts r.expr) (map rule rules.now) }
+    requires texts { All (λ (r : Rule). HaveTexts r.expr) (map rule_in rules.now) }
     requires part { part < length rules.now }
-    ensures { (a : Act) → slice_get (map (rewrite_act (option_map lent_word place.entry)) (map rule rules.now)) part ≡ Some a → DoesWithin (lookup_of lookup.now) (goal_of goal.now) a result }
+    ensures { (a : Act) → slice_get (map (rewrite_act (option_map lent_word place.entry)) (map rule_in rules.now)) part ≡ Some a → DoesWithin (lookup_of lookup.now) (goal_of goal.now) a result }
 {
     match at(rules, part as usize) {
         Some(rule) => rewritten_by(alloc, goal, rule, place, lookup),
@@ -87,8 +87,8 @@ fn rewritten_by(
 ) -> Result<Reduction, ActFault>
     requires ready { IsReady (lookup_of lookup.now) (goal_of goal.now) }
     requires counted { IsCounted (lookup_of lookup.now) (goal_of goal.now) }
-    requires texts { HaveTexts (rule rule.now).expr }
-    ensures { DoesWithin (lookup_of lookup.now) (goal_of goal.now) (rewrite_act (option_map lent_word place.entry) (rule rule.now)) result }
+    requires texts { HaveTexts (rule_in rule.now).expr }
+    ensures { DoesWithin (lookup_of lookup.now) (goal_of goal.now) (rewrite_act (option_map lent_word place.entry) (rule_in rule.now)) result }
 {
     match place {
         None => rewrite(alloc, goal, rule, lookup),

@@ -1,21 +1,22 @@
 // The table: the act of each part of a move.
-ghost use Rattle.std.specs.Prelude.{◌≡◌, ◌<◌, ◌^◌, Some, length, map, option_map, slice_get};
+ghost use Rattle.std.specs.Prelude.{◌≡◌, ◌<◌, ◌^◌, All, map, option_map};
 ghost use Rattle.pg_base.specs.Tokens.{word};
 ghost use Rattle.pg_logic.specs.Tree.{nodes_of};
 ghost use Rattle.pg_script.specs.Data.{entries_of};
-ghost use Rattle.pg_script.specs.View.{entry, expression, part as part_in, shape, step as move_in, words};
+ghost use Rattle.pg_script.specs.View.{entry, expression, words};
 ghost use Rattle.pg_terms.specs.View.{formula};
-ghost use Rattle.pg_moves.specs.Acts.{Act, acts_of, apply_act, have_act, move_named, plain_act, split_act, symm_act};
+ghost use Rattle.pg_moves.specs.Acts.{Act, Revert, apply_act, have_act, move_named, plain_act, split_act, symm_act};
+ghost use Rattle.pg_moves.specs.Measures.{formulas};
 ghost use Rattle.pg_moves.specs.First.{first_goal};
 ghost use Rattle.pg_moves.specs.Runs as runs;
 ghost use Rattle.pg_goal.specs.Conditions.{IsCounted, AreTexts};
 ghost use Rattle.pg_goal.specs.View.{goal_of, lookup_of};
-ghost use Rattle.pg_reduction.specs.Doing.{IsReady, Does, DoesWithin};
+ghost use Rattle.pg_reduction.specs.Doing.{IsReady, Does};
 ghost use Rattle.pg_runs.specs.Asked.{CanRun};
 ghost use Rattle.pg_runs.specs.Running.{Ends};
 ghost use Rattle.pg_acts.specs.Giving.{lent};
 ghost use Rattle.pg_table.specs.Lent.{lent_word, lent_expression};
-ghost use Rattle.pg_runs.specs.Written.{IsWritten, AreNamed, HasTexts, HaveTexts, IsNamed, Maybe};
+ghost use Rattle.pg_runs.specs.Written.{AreNamed, HasTexts, HaveTexts, IsNamed, Maybe};
 
 use crate::lists::{introduced, rewritten, witnessed};
 use pg_acts::{
@@ -80,7 +81,7 @@ impl Acts for Moves {
                 formula,
                 expr,
             } => had(alloc, goal, name, formula.as_ref(), expr.as_ref(), lookup),
-            Form::Revert(name) => revert(alloc, goal, name, lookup),
+            Form::Revert(name) => reverted(alloc, goal, name, lookup),
             Form::ByCases { name, formula } => by_cases(alloc, goal, name, formula, lookup),
             Form::Unknown => Err(ActFault::Stop(Cause::WrongShape)),
         }
@@ -88,12 +89,7 @@ impl Acts for Moves {
 }
 
 /// A move with nothing behind its word.
-fn plain(
-    alloc: Global,
-    goal: &Goal,
-    head: &str,
-    lookup: &Lookup<'_>,
-) -> Result<Reduction, ActFault>
+fn plain(alloc: Global, goal: &Goal, head: &str, lookup: &Lookup<'_>) -> Result<Reduction, ActFault>
     requires { IsReady (lookup_of lookup.now) (goal_of goal.now) }
     ensures { Does (lookup_of lookup.now) (goal_of goal.now) (plain_act (move_named head.now)) result }
 {
@@ -127,6 +123,7 @@ fn applied(
 }
 
 /// `induction n with ..`, `cases n with ..`.
+#[tactic(auto, using(crate::proofs::Small::small_hyps, crate::proofs::Small::small_target, crate::proofs::Small::double_hyps, crate::proofs::Small::double_target))]
 fn split(
     alloc: Global,
     goal: &Goal,
@@ -136,8 +133,7 @@ fn split(
     lookup: &Lookup<'_>,
 ) -> Result<Reduction, ActFault>
     requires ready { IsReady (lookup_of lookup.now) (goal_of goal.now) }
-    requires counted { IsCounted (lookup_of lookup.now) (goal_of goal.now) }
-    requires target { nodes_of (goal_of goal.now).target < 2 ^ 32 }
+    requires small { All (λ a. nodes_of a < 2 ^ 29) (formulas (goal_of goal.now)) }
     requires names { AreNamed (words names.now) }
     ensures { Does (lookup_of lookup.now) (goal_of goal.now) (split_act (move_named head.now) (word name.now) (words names.now)) result }
 {
@@ -145,6 +141,22 @@ fn split(
         Some(TacticName::Induction) => induction(alloc, goal, name, names, lookup),
         _ => cases(alloc, goal, name, names, lookup),
     }
+}
+
+/// `revert x`.
+#[tactic(auto, using(crate::proofs::Small::small_hyps, crate::proofs::Small::small_target))]
+fn reverted(
+    alloc: Global,
+    goal: &Goal,
+    name: &Token<'_>,
+    lookup: &Lookup<'_>,
+) -> Result<Reduction, ActFault>
+    requires ready { IsReady (lookup_of lookup.now) (goal_of goal.now) }
+    requires small { All (λ a. nodes_of a < 2 ^ 29) (formulas (goal_of goal.now)) }
+    requires name { IsNamed (word name.now) }
+    ensures { Does (lookup_of lookup.now) (goal_of goal.now) (Revert (word name.now)) result }
+{
+    revert(alloc, goal, name, lookup)
 }
 
 /// `symm`, `symm at h`.
