@@ -5,14 +5,11 @@ use Rattle.std.specs.Str.{bytes_eq}
 use Rattle.std.proofs.lemmas.List.{length-map}
 use Rattle.std.proofs.lemmas.List.Quantifiers.{position-Some}
 use Rattle.pg_base.specs.Tokens.{Word}
-use Rattle.pg_logic.specs.Tree.{Fm}
-use Rattle.pg_logic.specs.Kernel.{hyp}
 use Rattle.pg_moves.specs.Acts.{Induction, Cases, Revert}
 use Rattle.pg_moves.specs.Assuming.{Found, hypothesis, reverted_hyp, reverted_var, reverted_as}
 use Rattle.pg_moves.specs.Causes.{WrongShape, NoSuchName}
-use Rattle.pg_moves.specs.Frames.{Frame, give, gives_all, change, parts}
+use Rattle.pg_moves.specs.Frames.{give}
 use Rattle.pg_moves.specs.Goals.{Var, Goal, variable_named}
-use Rattle.pg_moves.specs.Holding.{carried, before}
 use Rattle.pg_moves.specs.Inducting.{induction_of_var, inducted_as, cases_of_var, cases_as}
 use Rattle.pg_moves.specs.Lookup.{Lookup}
 use Rattle.pg_moves.specs.Proofs.{hyp_formula}

@@ -120,13 +120,7 @@ fn released(alloc: Global, hyps: &[Hyp], k: u32) -> Result<Items<Hyp>, AllocErro
 
 /// What stands in `rest`, then copies of the hypotheses of `goal` that hold variable `k`, and the
 /// target of `goal`: in these there is a term for the variable.
-pub fn at_term(
-    alloc: Global,
-    goal: &Goal,
-    k: u32,
-    t: &Term,
-    rest: Goal,
-) -> Result<Goal, AllocError>
+pub fn at_term(alloc: Global, goal: &Goal, k: u32, t: &Term, rest: Goal) -> Result<Goal, AllocError>
     requires hyps { All IsClosable (map hyp_formula goal.now.hyps) }
     requires target { IsClosable (formula goal.now.target) }
     ensures { IfOk result (λ g. goal_of g ≡ aimed (put_for k (term t.now) (formula goal.now.target)) (with_copies k (term t.now) (carried k (goal_of goal.now)) (goal_of rest))) }

@@ -202,5 +202,8 @@ fn joined(
 {
     let base = Boxed::new(alloc, Proof::Hyp(i))?;
     let next = instance(alloc, step, newest, i + 1)?;
-    Boxed::new(alloc, Proof::Ind(body.into_inner(), Term::Free(k), base, next))
+    Boxed::new(
+        alloc,
+        Proof::Ind(body.into_inner(), Term::Free(k), base, next),
+    )
 }
