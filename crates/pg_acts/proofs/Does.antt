@@ -25,9 +25,8 @@ use Rattle.pg_reduction.specs.View.{cause_of}
 use Rattle.pg_reduction.specs.Doing.{IsReady, Does, Makes, Yields}
 use Rattle.pg_acts.specs.Named.{asserted_as, split_as, swapped_at, swapping}
 use Rattle.pg_acts.specs.Opening.{opening, opened_proof}
-use Rattle.pg_acts.specs.Reverting.{reverting}
 use Rattle.pg_reduction.proofs.Does.{does}
-use Rattle.pg_acts.proofs.Justified.{j-rfl, j-exfalso, j-intro, j-left, j-right, j-both, j-witness, j-symm, j-symm_at, j-assert, j-by_cases, j-cases_hyp, j-revert_hyp, j-revert_var}
+use Rattle.pg_acts.proofs.Justified.{j-rfl, j-exfalso, j-intro, j-left, j-right, j-both, j-witness, j-symm, j-symm_at, j-assert, j-by_cases, j-cases_hyp}
 
 module _ (l : Lookup) (g : Goal) (ready : IsReady l g) where
   pub does-rfl : (r : Result Reduction ActFault) → Makes (reflexivity g.target) (whole reflexive ∷ []) r → Does l g Rfl r
@@ -85,18 +84,6 @@ module _ (l : Lookup) (g : Goal) (ready : IsReady l g) where
       does l g ready (Cases x ws) (cases_of_hyp l g f ws) (cases_frames (opened_proof l f) (head_unfolded l f.hyp.formula))
       (ap (λ v. cases_as l g x ws v (hypothesis g x.text)) none ∙ ap (cases_as l g x ws None) is) (j-cases_hyp l g ready x f is ws) r m
 
-  pub does-revert_hyp : (x : Word) (f : Found) → hypothesis g x.text ≡ Some f → (r : Result Reduction ActFault) → Makes (Ok (reverted_hyp g f ∷ [])) (give f.hyp.formula f.number ∷ []) r → Does l g (Revert x) r
-  unfolding new_goals
-  does-revert_hyp x f is r m =
-      does l g ready (Revert x) (Ok (reverted_hyp g f ∷ [])) (give f.hyp.formula f.number ∷ []) (ap (λ o. reverted_as g x o (variable_named g x.text)) is) (λ new e. j-revert_hyp l g ready x f is new (cc)) r m
-
-  pub does-revert_var : (x : Word) (k : ℕ) → hypothesis g x.text ≡ None → variable_named g x.text ≡ Some k → (r : Result Reduction ActFault) →
-      Makes (Ok (reverted_var g x.text k ∷ [])) (reverting (length g.hyps) g x.text k) r → Does l g (Revert x) r
-  unfolding new_goals
-  does-revert_var x k none is r m =
-      does l g ready (Revert x) (Ok (reverted_var g x.text k ∷ [])) (reverting (length g.hyps) g x.text k)
-      (ap (λ o. reverted_as g x o (variable_named g x.text)) none ∙ ap (reverted_as g x None) is) (λ new e. j-revert_var l g ready x k is new (cc)) r m
-
 -- ---- stops
 
 -- there is no hypothesis of the name
@@ -107,10 +94,6 @@ unnamed-symm_at l g x is = ap (λ o. and_then (wanted o (NoSuchName x.at)) (swap
 pub unnamed-cases : (l : Lookup) (g : Goal) (x : Word) (ws : List Word) → variable_named g x.text ≡ None → hypothesis g x.text ≡ None → new_goals l g (Cases x ws) ≡ Err (NoSuchName x.at)
 unfolding new_goals
 unnamed-cases l g x ws none is = ap (λ v. cases_as l g x ws v (hypothesis g x.text)) none ∙ ap (cases_as l g x ws None) is
-
-pub unnamed-revert : (l : Lookup) (g : Goal) (x : Word) → hypothesis g x.text ≡ None → variable_named g x.text ≡ None → new_goals l g (Revert x) ≡ Err (NoSuchName x.at)
-unfolding new_goals
-unnamed-revert l g x is none = ap (λ o. reverted_as g x o (variable_named g x.text)) is ∙ ap (reverted_as g x None) none
 
 -- what is wanted is not read
 pub unread-witness : (l : Lookup) (g : Goal) (p : Part) (c : Cause) → term_there l g p ≡ Err c → new_goals l g (Witness p) ≡ Err c

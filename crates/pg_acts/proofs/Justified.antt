@@ -31,7 +31,6 @@ use Rattle.pg_moves.proofs.Sequents.{then-ok, wanted-ok}
 use Rattle.pg_reduction.specs.Doing.{IsReady}
 use Rattle.pg_acts.specs.Named.{asserted_as, split_as, swapped_at, swapping}
 use Rattle.pg_acts.specs.Opening.{opening, opened_proof}
-use Rattle.pg_acts.specs.Reverting.{reverting}
 
 module _ (l : Lookup) (g : Goal) (ready : IsReady l g) where
   pub j-rfl : (new : List Goal) → reflexivity g.target ≡ Ok new → J l g ready new (whole reflexive ∷ [])
@@ -86,13 +85,5 @@ module _ (l : Lookup) (g : Goal) (ready : IsReady l g) where
       let w = by-good l g ready new _ (good-symm_at l (ok l g ready) g (fit l g ready) f (there x f is) y.0 y.1 new (cc)) in
       subst (λ fs. J l g ready new fs) (ap (swapping (length g.hyps) f) (sym y.1)) (subst (λ k. J l g ready new (cut y.0 (swapped_proof f.number k f.hyp.formula) ∷ [])) as-many w)
 
-  pub j-revert_hyp : (x : Word) (f : Found) → hypothesis g x.text ≡ Some f → (new : List Goal) → reverted_hyp g f ∷ [] ≡ new → J l g ready new (give f.hyp.formula f.number ∷ [])
-  j-revert_hyp x f is new e = by-good l g ready new _ (good-revert_hyp l (ok l g ready) g (fit l g ready) f (there x f is) new e)
-
   pub j-cases_hyp : (x : Word) (f : Found) → hypothesis g x.text ≡ Some f → (ws : List Word) (new : List Goal) → cases_of_hyp l g f ws ≡ Ok new → J l g ready new (cases_frames (opened_proof l f) (head_unfolded l f.hyp.formula))
   j-cases_hyp x f is ws new e = by-good l g ready new _ (good-cases_hyp l (ok l g ready) g (fit l g ready) (omega (arith, ready.vars)) f (there x f is) ws new e)
-
-  pub j-revert_var : (x : Word) (k : ℕ) → variable_named g x.text ≡ Some k → (new : List Goal) → reverted_var g x.text k ∷ [] ≡ new → J l g ready new (reverting (length g.hyps) g x.text k)
-  j-revert_var x k is new e =
-      let within = (position-Some (λ (v : Var). v.live && bytes_eq x.text v.name) g.vars k (record { name = []; live = false }) is).0 in
-      subst (λ n. J l g ready new (reverting n g x.text k)) as-many (by-good l g ready new _ (good-revert_var l (ok l g ready) g (fit l g ready) ready.vars k within x.text new e))

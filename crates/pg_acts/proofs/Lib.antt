@@ -1,5 +1,4 @@
 pub mod Does
-pub mod Held
 pub mod Justified
 pub mod Known
 pub mod Large

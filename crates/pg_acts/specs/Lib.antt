@@ -3,6 +3,5 @@ pub mod Giving
 pub mod Limits
 pub mod Named
 pub mod Opening
-pub mod Reverting
 pub mod Unread
 pub mod View

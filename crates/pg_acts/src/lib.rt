@@ -5,12 +5,9 @@ mod assuming;
 mod casing;
 mod closing;
 mod giving;
-mod holding;
-mod reverting;
 mod unfolding;
 
 pub use assuming::{assert, by_cases, symm, symm_at};
 pub use casing::cases_hypothesis;
 pub use closing::{constructor, exfalso, intro, left, rfl, right, witness};
 pub use giving::{exact, have};
-pub use reverting::revert;

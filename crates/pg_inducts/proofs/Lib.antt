@@ -1,0 +1,4 @@
+pub mod Does
+pub mod Doubled
+pub mod Held
+pub mod Named
