@@ -1,0 +1,7 @@
+pub mod Applying
+pub mod Depth
+pub mod Exchanging
+pub mod Rewriting
+pub mod Searching
+pub mod Taking
+pub mod View
