@@ -1,8 +1,11 @@
 -- How deep binders nest, and what stands in the places of a term.
-use Rattle.std.proofs.Common.{◌≡◌, ◌≤◌, ◌<◌, ◌^◌, ℕ, ◌+◌, true, false, Bool, refl, arith, ap, sym, ◌∙◌}
+use Rattle.std.proofs.Common.{◌≡◌, ◌≤◌, ◌<◌, ◌^◌, ℕ, ◌+◌, List, [], ◌∷◌, ◌++◌, length, take, get_or, true, refl, arith, ap, sym, ◌∙◌}
 use Rattle.std.specs.Prelude.{max, if◌then◌else◌}
-use Rattle.pg_logic.specs.Tree.{Tm, free, bound, nought, succ, app, Tms, Fm, falsum, eq, pred, and, or, imp, all, ex, same, nodes_of}
+use Rattle.pg_logic.specs.Tree.{Tm, free, bound, nought, succ, app, Tms, none, arg, Fm, falsum, eq, pred, and, or, imp, all, ex, same, nodes_of}
 use Rattle.pg_moves.specs.Replaced.{replaced_formula, abstracted, abstracted_all}
+use Rattle.pg_terms.specs.declared.term.Term.{Term}
+use Rattle.pg_terms.specs.View.{term, args}
+use Rattle.pg_terms.proofs.Lists.{push, args-push, args-more}
 use Rattle.pg_rewrites.specs.Depth.{binder_depth}
 
 depth-replaced : (old new : Tm) (a : Fm) → binder_depth (replaced_formula old new a) ≡ binder_depth a
@@ -38,3 +41,14 @@ abstracted-same old d (succ t) e = ap (λ b. if b then bound d else succ (abstra
 abstracted-same old d (app f ts) e = ap (λ b. if b then bound d else app f (abstracted_all old d ts)) e
 
 pub ruleset abstracts = (abstracted-same)
+
+all-push : (old : Tm) (d : ℕ) (ts : Tms) (t : Tm) → abstracted_all old d (push ts t) ≡ push (abstracted_all old d ts) (abstracted old d t)
+all-push old d none t = refl
+all-push old d (arg s ts) t = ap (arg (abstracted old d s)) (all-push old d ts t)
+
+-- a turn of the loop
+pub all-turn : (old : Tm) (d : ℕ) (ts : List Term) (i : ℕ) (t : Term) (rs new : List Term) (r : Term) → i < length ts → t ≡ get_or ts i t → new ≡ rs ++ r ∷ [] →
+    args rs ≡ abstracted_all old d (args (take i ts)) → term r ≡ abstracted old d (term t) → args new ≡ abstracted_all old d (args (take (i + 1) ts))
+all-turn old d ts i t rs new r lt is made before now =
+    ap args made ∙ args-push rs r ∙ ap (λ us. push us (term r)) before ∙ ap (push (abstracted_all old d (args (take i ts)))) now
+    ∙ sym (all-push old d (args (take i ts)) (term t)) ∙ ap (abstracted_all old d) (sym (args-more ts i t lt is))

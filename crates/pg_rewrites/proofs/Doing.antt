@@ -99,21 +99,21 @@ module _ (l : Lookup) (g : Goal) (ready : IsReady l g) where
 
   -- ---- `apply e`
 
-  few-are : (as : List Fm) → FewVars (n + 1) (map (λ a. at n hs a) as)
+  few-are : (cs : List Fm) → FewVars (n + 1) (map (λ a. at n hs a) cs)
   few-are [] = tt
-  few-are (a ∷ as') = (omega arith, few-are as')
+  few-are (a ∷ cs) = (omega arith, few-are cs)
 
-  all-fitting : (as' : List Fm) → AllFit s n as' → AllFitting s (map (λ a. at n hs a) as')
+  all-fitting : (cs : List Fm) → AllFit s n cs → AllFitting s (map (λ a. at n hs a) cs)
   all-fitting [] f = tt
-  all-fitting (a ∷ as') f = ((fit-goal.0, f.0), all-fitting as' f.1)
+  all-fitting (a ∷ cs) f = ((fit-goal.0, f.0), all-fitting cs f.1)
 
-  goals-are : (as' : List Fm) (rest : List Sequent) → sequents s l.theorems Q n hs as' rest ≡ map (λ a. at n hs a) as' ++ rest
+  goals-are : (cs : List Fm) (rest : List Sequent) → sequents s l.theorems Q n hs cs rest ≡ map (λ a. at n hs a) cs ++ rest
   goals-are [] rest = refl
-  goals-are (a ∷ as') rest = ap (λ l. at n hs a ∷ l) (goals-are as' rest)
+  goals-are (a ∷ cs) rest = ap (λ l. at n hs a ∷ l) (goals-are cs rest)
 
-  targets-are : (as' : List Fm) → map (λ a. at n hs a) as' ≡ map sequent (map (λ a. aimed a g) as')
+  targets-are : (cs : List Fm) → map (λ a. at n hs a) cs ≡ map sequent (map (λ a. aimed a g) cs)
   targets-are [] = refl
-  targets-are (a ∷ as') = ap (λ l. at n hs a ∷ l) (targets-are as')
+  targets-are (a ∷ cs) = ap (λ l. at n hs a ∷ l) (targets-are cs)
 
   abbrev Applies : Expression → Fm → Pf → Fit → Type 0
   Applies e a p f = (new_goals l g (Apply e) ≡ Ok (asking g (stages f.steps f.terms a))) × J (asking g (stages f.steps f.terms a)) (applied (stages f.steps f.terms a) p ∷ [])

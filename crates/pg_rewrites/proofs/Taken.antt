@@ -67,4 +67,4 @@ module _ (l : Lookup) (g : Goal) where
 
   -- with a term for each binder, the holes of what is left are filled
   pub taken-filled : (ts : List Tm) (a : Fm) (p : Pf) → C ts → length ts ≡ length (unbound [] a).binders → (taken_at ts a p).says ≡ filled_formula ts (unbound [] a).rest
-  taken-filled ts a p ct e = taken-filled-from [] ts [] a p tt ct (sym e)
+  taken-filled ts a p ct e = taken-filled-from [] ts [] a p tt ct (omega (arith, e))

@@ -3,5 +3,6 @@ pub mod Depth
 pub mod Exchanging
 pub mod Rewriting
 pub mod Searching
+pub mod Staging
 pub mod Taking
 pub mod View

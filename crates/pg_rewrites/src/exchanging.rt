@@ -84,7 +84,7 @@ fn aimed(
     requires { binder_depth (formula goal.now.target) < 2 ^ 32 }
     ensures { IfOk result (Has (aimed (formula a) (goal_of goal.now) ∷ []) (rewriting back (formula goal.now.target) (equation_of e))) }
 {
-    let body = abstracted_formula(alloc, e.old.get(), 0, goal.target.get())?;
+    let body = abstracted_formula(alloc, e.old.get(), goal.target.get())?;
     let Equation { old, new, proof } = e;
     let by = if back {
         proof
@@ -159,7 +159,7 @@ fn said(
     requires is { formula a ≡ rewritten_in (formula f.now.hyp.now.formula) (equation_of e) }
     ensures { IfOk result (λ x. claim x ≡ reworded back (found_of f.now) (equation_of e)) }
 {
-    let body = abstracted_formula(alloc, e.old.get(), 0, f.hyp.formula.get())?;
+    let body = abstracted_formula(alloc, e.old.get(), f.hyp.formula.get())?;
     let known = Boxed::new(alloc, Proof::Hyp(f.number))?;
     let Equation { old, new, proof } = e;
     let by = if back {
