@@ -1,5 +1,6 @@
 pub mod Depths
 pub mod Doing
+pub mod Found
 pub mod Given
 pub mod Limits
 pub mod Names

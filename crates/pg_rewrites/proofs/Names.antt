@@ -8,6 +8,7 @@ use Rattle.pg_moves.specs.Causes as causes
 use Rattle.pg_moves.specs.Instances.{Values}
 use Rattle.pg_moves.specs.Stripped.{unbound, fixed}
 use Rattle.pg_match.specs.Answers.{Determines}
+use Rattle.pg_match.specs.declared.fault.MatchFault.{MatchFault}
 use Rattle.pg_match.specs.declared.fault.MatchFault.TheVariants as fault
 use Rattle.pg_reduction.specs.declared.cause.ActFault.{ActFault}
 use Rattle.pg_reduction.specs.declared.cause.ActFault.TheVariants.{Stop, OutOfMemory}
@@ -55,10 +56,10 @@ pub all-fixed : (vs : Values) (ts : List Rattle.pg_terms.specs.declared.term.Ter
     ((names : List Name) → length names ≡ n → Determines names vs (Ok ts)) → fixed (take n xs) vs ≡ Ok (terms ts)
 all-fixed vs ts xs n h d = d (take n xs) (length-take n xs h)
 
-pub unfixed-yields : (vs : Values) (i : ℕ) (xs : List Name) (n : ℕ) (r : ActFault) → n ≤ length xs →
+unfixed-yields-of : (vs : Values) (i : ℕ) (xs : List Name) (n : ℕ) (r : ActFault) → n ≤ length xs →
     ((names : List Name) → length names ≡ n → Determines names vs (Err (fault.Undetermined i))) → IsUnfixed (slice_get xs i) r → Yields terms (fixed (take n xs) vs) (Err r)
-unfixed-yields vs i xs n OutOfMemory h d is = tt
-unfixed-yields vs i xs n (Stop c) h d is = go (slice_get xs i) refl is
+unfixed-yields-of vs i xs n OutOfMemory h d is = tt
+unfixed-yields-of vs i xs n (Stop c) h d is = go (slice_get xs i) refl is
   where
     names : List Name
     names = take n xs
@@ -70,8 +71,14 @@ unfixed-yields vs i xs n (Stop c) h d is = go (slice_get xs i) refl is
     go None e is = absurd is
     go (Some x) e is = known.1 x (get-take n xs i (omega (arith, known.0, length-take n xs h)) ∙ e) ∙ ap Err is
 
-pub below : (vs : Values) (i : ℕ) (xs : List Name) (n : ℕ) → n ≤ length xs → ((names : List Name) → length names ≡ n → Determines names vs (Err (fault.Undetermined i))) → i < length xs
-below vs i xs n h d = let k = d (take n xs) (length-take n xs h) in omega (arith, k.0, length-take n xs h, h)
+-- the same of a fault that is this one
+pub unfixed-yields : (vs : Values) (i : ℕ) (xs : List Name) (n : ℕ) (r : ActFault) (e : MatchFault) → e ≡ fault.Undetermined i → n ≤ length xs →
+    ((names : List Name) → length names ≡ n → Determines names vs (Err e)) → IsUnfixed (slice_get xs i) r → Yields terms (fixed (take n xs) vs) (Err r)
+unfixed-yields vs i xs n r e q h d is = unfixed-yields-of vs i xs n r h (subst (λ e. (names : List Name) → length names ≡ n → Determines names vs (Err e)) q d) is
+
+pub below : (vs : Values) (i : ℕ) (xs : List Name) (n : ℕ) (e : MatchFault) → e ≡ fault.Undetermined i → n ≤ length xs → ((names : List Name) → length names ≡ n → Determines names vs (Err e)) → i < length xs
+below vs i xs n e q h d =
+    let k = subst (λ e. Determines (take n xs) vs (Err e)) q (d (take n xs) (length-take n xs h)) in omega (arith, k.0, length-take n xs h, h)
 
 -- ---- all leading binders taken off
 
