@@ -158,7 +158,7 @@ module _ (l : Lookup) (g : Goal) (ready : IsReady l g) where
   abbrev form : Fm → Stripped
   form a = unbound [] a
 
-  found-fits : (x : Word) (f : Found) → hypothesis g x.text ≡ Some f → fits s n 0 f.hyp.formula ≡ true
+  pub found-fits : (x : Word) (f : Found) → hypothesis g x.text ≡ Some f → fits s n 0 f.hyp.formula ≡ true
   found-fits x f there = fit_at s n hs f.number f.hyp.formula fit-goal.0 (found-there g x.text f there)
 
   record Forward (f : Found) (a : Fm) (p : Pf) (ts : List Tm) : Type 0 where

@@ -3,7 +3,7 @@ use Rattle.std.proofs.Common.{◌≡◌, ℕ, ◌+◌, ◌≤◌, ◌<◌, ◌^�
 use Rattle.std.specs.Prelude.{Result, Ok, Err, option_map, if◌then◌else◌}
 use Rattle.std.specs.List.{list_all}
 use Rattle.std.proofs.lemmas.List.{length-map}
-use Rattle.pg_logic.specs.Tree.{Tm, Fm, falsum, eq, pred, and, or, imp, all, ex, same, same_formula, nodes_of}
+use Rattle.pg_logic.specs.Tree.{Tm, free, bound, nought, succ, app, Fm, is_tight, is_tight_formula, falsum, eq, pred, and, or, imp, all, ex, same, same_formula, nodes_of}
 use Rattle.pg_logic.specs.Declarations.{Name}
 use Rattle.pg_terms.specs.declared.term.Term.{Term}
 use Rattle.pg_terms.specs.View.{term, terms}
@@ -19,11 +19,15 @@ use Rattle.pg_reduction.specs.Doing.{Yields}
 use Rattle.pg_reduction.specs.View.{cause_of}
 use Rattle.pg_rewrites.specs.declared.applying.Fewest.{Fewest}
 use Rattle.pg_rewrites.specs.declared.applying.Fit as rust
+use Rattle.std.proofs.lemmas.Bool.{and_parts}
+use Rattle.pg_match.specs.Answers.{is_bare}
+use Rattle.pg_moves.specs.Rewriting.{Sides, sides, not_bare, no_binder}
+use Rattle.pg_rewrites.specs.Rewriting.{instance_terms, rule_terms}
 use Rattle.pg_rewrites.specs.Applying.{Fit, steps_of, fitted, fit, forward_terms}
-use Rattle.pg_rewrites.specs.Searching.{looks, Short, short, shortened}
+use Rattle.pg_rewrites.specs.Searching.{left_side, old_side, looks, Short, short, shortened}
 use Rattle.pg_rewrites.specs.Taking.{binder_names}
 use Rattle.pg_rewrites.specs.View.{fit_of}
-use Rattle.pg_rewrites.proofs.Names.{front-is, length-front, names-nodes, unbound-names}
+use Rattle.pg_rewrites.proofs.Names.{front-is, length-front, names-nodes, unbound-names, unbound-tight}
 use Rattle.pg_rewrites.proofs.Staged.{finding}
 
 -- ---- how many values there are
@@ -117,3 +121,98 @@ fit-err a subject f (Stop c) k y =
     let m = k.matched in
     ap (λ o. and_then (wanted o NoInstance) fitted) k.there
     ∙ ap (λ x. and_then x (λ ts. Ok (record { terms = ts; steps = steps_of m.form }))) (ap (fixed m.form.binders) (sym (ap (λ (s : Short). s.values) k.is)) ∙ ap (λ xs. fixed xs (found_values f.values)) (sym k.first.first) ∙ y)
+
+-- ---- the left side of an implication, the side of an equation that is replaced
+
+is-implication : (r p : Fm) → left_side r ≡ Some p → (q : Fm) × (r ≡ imp p q)
+is-implication (imp a b) p e = let q : a ≡ p = cc in (b, ap (λ a. imp a b) q)
+is-implication falsum p e = absurd (cc)
+is-implication (eq t u) p e = absurd (cc)
+is-implication (pred x ts) p e = absurd (cc)
+is-implication (and a b) p e = absurd (cc)
+is-implication (or a b) p e = absurd (cc)
+is-implication (all x a) p e = absurd (cc)
+is-implication (ex x a) p e = absurd (cc)
+
+pub left-tight : (a p : Fm) (count : ℕ) → left_side (unbound [] a).rest ≡ Some p → count ≡ length (unbound [] a).binders → is_tight_formula 0 a ≡ true → is_tight_formula count p ≡ true
+left-tight a p count e l h =
+    let w = is-implication (unbound [] a).rest p e in
+    let k = unbound-tight [] a 0 refl h in
+    (and_parts _ _ (subst (λ c. is_tight_formula count c ≡ true) w.1 (subst (λ n. is_tight_formula n (unbound [] a).rest ≡ true) (sym l) k))).0
+
+instance-of : (o : Option Found) (f : Found) (v : Option Values) → o ≡ Some f → option_map found_values o ≡ v → v ≡ Some (found_values f)
+instance-of o f v is e = sym e ∙ ap (option_map found_values) is
+
+pub left-firsts : (a p subject : Fm) (count : ℕ) (o : Option Found) (f : Found) → nodes_of a ≤ 4096 → count ≡ length (unbound [] a).binders → o ≡ Some f → option_map found_values o ≡ formula_instance p count subject → First a (unbound [] a).binders (length f.values)
+left-firsts a p subject count o f few l is e = unbound-firsts a f count few l (formula-count p count subject (found_values f) (instance-of o f (formula_instance p count subject) is e))
+
+pub forward-yields : (a p subject : Fm) (count : ℕ) (o : Option Found) (f : Found) (r : Result (List Term) ActFault) → nodes_of a ≤ 4096 → left_side (unbound [] a).rest ≡ Some p → count ≡ length (unbound [] a).binders → o ≡ Some f →
+    option_map found_values o ≡ formula_instance p count subject → Yields terms (fixed (take (length f.values) (binder_names a)) (found_values f)) r → Yields terms (forward_terms (unbound [] a) (unbound [] a).rest subject) r
+forward-yields a p subject count o f r few ep l is e y =
+    let st = unbound [] a in
+    let w = is-implication st.rest p ep in
+    let k = left-firsts a p subject count o f few l is e in
+    let there : formula_instance p (length st.binders) subject ≡ Some (found_values f) = ap (λ n. formula_instance p n subject) (sym l) ∙ instance-of o f (formula_instance p count subject) is e in
+    let q : forward_terms st st.rest subject ≡ fixed st.binders (found_values f) = ap (λ c. forward_terms st c subject) w.1 ∙ ap (λ v. and_then (wanted v NoInstance) (fixed st.binders)) there in
+    subst (λ t. Yields terms t r) (sym q) (yields-first a st.binders (length f.values) (found_values f) r k y)
+
+is-equation : (back : Bool) (r : Fm) (o : Tm) → old_side back r ≡ Some o → (z : Sides) × (sides back r ≡ Ok z) × (z.old ≡ o) × ((n : ℕ) → is_tight_formula n r ≡ true → is_tight n o ≡ true)
+is-equation true (eq s t) o e = let q : t ≡ o = cc in (record { old = t; new = s }, refl, q, λ n h. subst (λ o. is_tight n o ≡ true) q (and_parts _ _ h).1)
+is-equation false (eq s t) o e = let q : s ≡ o = cc in (record { old = s; new = t }, refl, q, λ n h. subst (λ o. is_tight n o ≡ true) q (and_parts _ _ h).0)
+is-equation back falsum o e = absurd (cc)
+is-equation back (pred x ts) o e = absurd (cc)
+is-equation back (and a b) o e = absurd (cc)
+is-equation back (or a b) o e = absurd (cc)
+is-equation back (imp a b) o e = absurd (cc)
+is-equation back (all x a) o e = absurd (cc)
+is-equation back (ex x a) o e = absurd (cc)
+
+pub side-tight : (back : Bool) (a : Fm) (o : Tm) (count : ℕ) → old_side back (unbound [] a).rest ≡ Some o → count ≡ length (unbound [] a).binders → is_tight_formula 0 a ≡ true → is_tight count o ≡ true
+side-tight back a o count e l h = subst (λ n. is_tight n o ≡ true) (sym l) ((is-equation back (unbound [] a).rest o e).3 (length (unbound [] a).binders) (unbound-tight [] a 0 refl h))
+
+pub side-firsts : (a : Fm) (o : Tm) (subject : Fm) (count : ℕ) (f : Found) → nodes_of a ≤ 4096 → count ≡ length (unbound [] a).binders → first_instance o count subject ≡ Some (found_values f) → First a (unbound [] a).binders (length f.values)
+side-firsts a o subject count f few l e = unbound-firsts a f count few l (instance-count o count subject (found_values f) e)
+
+not-bound : (t : Tm) (z : Sides) → is_bare t ≡ false → not_bare t z ≡ Ok z
+not-bound (bound i) z e = absurd (cc)
+not-bound (free i) z e = refl
+not-bound nought z e = refl
+not-bound (succ t) z e = refl
+not-bound (app f ts) z e = refl
+
+pub rule-yields : (back : Bool) (a : Fm) (o : Tm) (subject : Fm) (count : ℕ) (f : Found) (r : Result (List Term) ActFault) → nodes_of a ≤ 4096 → old_side back (unbound [] a).rest ≡ Some o → count ≡ length (unbound [] a).binders →
+    is_bare o ≡ false → first_instance o count subject ≡ Some (found_values f) → Yields terms (fixed (take (length f.values) (binder_names a)) (found_values f)) r → Yields terms (rule_terms back (unbound [] a) subject) r
+rule-yields back a o subject count f r few eo l bare e y =
+    let st = unbound [] a in
+    let w = is-equation back st.rest o eo in
+    let z = w.0 in
+    let k = side-firsts a o subject count f few l e in
+    let q : rule_terms back st subject ≡ fixed st.binders (found_values f) =
+    ap (λ x. and_then x (λ z. and_then (no_binder z) (instance_terms st subject))) w.1
+    ∙ ap (λ x. and_then x (instance_terms st subject)) (not-bound z.old z (ap is_bare w.2 ∙ bare))
+    ∙ ap (λ v. and_then (wanted v NoInstance) (fixed st.binders)) (ap (λ t. first_instance t (length st.binders) subject) w.2 ∙ ap (λ n. first_instance o n subject) (sym l) ∙ e) in
+    subst (λ t. Yields terms t r) (sym q) (yields-first a st.binders (length f.values) (found_values f) r k y)
+
+-- no implication, no equation
+pub forward-wrong : (st : Stripped) (r subject : Fm) → left_side r ≡ None → forward_terms st r subject ≡ Err WrongShape
+forward-wrong st (imp a b) subject e = absurd (cc)
+forward-wrong st falsum subject e = refl
+forward-wrong st (eq t u) subject e = refl
+forward-wrong st (pred x ts) subject e = refl
+forward-wrong st (and a b) subject e = refl
+forward-wrong st (or a b) subject e = refl
+forward-wrong st (all x a) subject e = refl
+forward-wrong st (ex x a) subject e = refl
+
+sides-wrong : (back : Bool) (r : Fm) → old_side back r ≡ None → sides back r ≡ Err WrongShape
+sides-wrong back (eq t u) e = absurd (cc)
+sides-wrong back falsum e = refl
+sides-wrong back (imp a b) e = refl
+sides-wrong back (pred x ts) e = refl
+sides-wrong back (and a b) e = refl
+sides-wrong back (or a b) e = refl
+sides-wrong back (all x a) e = refl
+sides-wrong back (ex x a) e = refl
+
+pub rule-wrong : (back : Bool) (st : Stripped) (subject : Fm) → old_side back st.rest ≡ None → rule_terms back st subject ≡ Err WrongShape
+rule-wrong back st subject e = ap (λ x. and_then x (λ z. and_then (no_binder z) (instance_terms st subject))) (sides-wrong back st.rest e)

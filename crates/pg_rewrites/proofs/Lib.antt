@@ -3,6 +3,7 @@ pub mod Doing
 pub mod Found
 pub mod Given
 pub mod Limits
+pub mod Making
 pub mod Names
 pub mod Staged
 pub mod Taken

@@ -18,7 +18,7 @@ ghost use Rattle.pg_terms.specs.View.{terms, formula};
 ghost use Rattle.pg_reduction.specs.Doing.{IsReady, Does, Has, Yields};
 ghost use Rattle.pg_reduction.specs.Named.{found_of};
 ghost use Rattle.pg_rewrites.specs.Applying.{asking, detached, fit, forward_terms, forwarded, stages};
-ghost use Rattle.pg_rewrites.specs.Searching.{looks, short, shortened};
+ghost use Rattle.pg_rewrites.specs.Searching.{left_side, lent_formula, looks, short, shortened};
 ghost use Rattle.pg_rewrites.specs.View.{claim, fit_of};
 
 use crate::staging::{asking, stages};
@@ -191,12 +191,22 @@ fn forward_terms(
     ensures { Yields terms (forward_terms (unbound [] (formula a.now)) (unbound [] (formula a.now)).rest (formula subject.now)) result }
 {
     let form = without_binders(a, 0);
-    let Formula::Imp(left, _) = form.rest else {
+    let Some(left) = left_side(form.rest) else {
         return Err(ActFault::Stop(Cause::WrongShape));
     };
-    match match_formula(alloc, left.get(), form.count, subject)? {
+    match match_formula(alloc, left, form.count, subject)? {
         None => Err(ActFault::Stop(Cause::NoInstance)),
         Some(found) => fixed(alloc, a, &found),
+    }
+}
+
+/// The left side of an implication.
+fn left_side<'a>(a: &'a Formula) -> Option<&'a Formula>
+    ensures { option_map lent_formula result ≡ left_side (formula a.now) }
+{
+    match a {
+        Formula::Imp(left, _) => Some(left.get()),
+        _ => None,
     }
 }
 

@@ -1,11 +1,12 @@
 // The equation by which a formula is rewritten.
-ghost use Rattle.std.specs.Prelude.{◌≡◌, ◌≤◌, ◌<◌, ◌^◌, [], IsTrue, length};
+ghost use Rattle.std.specs.Prelude.{◌≡◌, ◌≤◌, ◌<◌, ◌^◌, [], IsTrue, length, option_map};
 ghost use Rattle.pg_kernel.specs.View.{proof};
 ghost use Rattle.pg_logic.specs.Tree.{nodes_of, is_tight_formula};
 ghost use Rattle.pg_moves.specs.Stripped.{unbound};
 ghost use Rattle.pg_terms.specs.View.{terms, formula};
 ghost use Rattle.pg_reduction.specs.Doing.{Yields};
 ghost use Rattle.pg_rewrites.specs.Rewriting.{equated, equation, rule_terms};
+ghost use Rattle.pg_rewrites.specs.Searching.{lent_term, old_side};
 ghost use Rattle.pg_rewrites.specs.View.{equation_of};
 
 use crate::stripping::without_binders;
@@ -88,14 +89,23 @@ fn rule_terms(
     ensures { Yields terms (rule_terms back (unbound [] (formula a.now)) (formula subject.now)) result }
 {
     let form = without_binders(a, 0);
-    let Formula::Eq(s, t) = form.rest else {
+    let Some(old) = old_side(back, form.rest) else {
         return Err(ActFault::Stop(Cause::WrongShape));
     };
-    let old = if back { t } else { s };
     match first_instance(alloc, old, form.count, subject) {
         Ok(found) => fixed(alloc, a, &found),
         Err(MatchFault::BarePattern) => Err(ActFault::Stop(Cause::BarePattern)),
         Err(MatchFault::NoInstance) => Err(ActFault::Stop(Cause::NoInstance)),
         Err(_) => Err(ActFault::OutOfMemory),
+    }
+}
+
+/// The side of an equation that is replaced.
+fn old_side<'a>(back: bool, a: &'a Formula) -> Option<&'a Term>
+    ensures { option_map lent_term result ≡ old_side back (formula a.now) }
+{
+    match a {
+        Formula::Eq(s, t) => Some(if back { t } else { s }),
+        _ => None,
     }
 }

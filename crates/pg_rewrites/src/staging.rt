@@ -1,11 +1,12 @@
 // What is stripped of a formula, step by step, and the goals for it.
-ghost use Rattle.std.specs.Prelude.{◌≡◌, ◌+◌, ◌<◌, ◌^◌, ◌++◌, ◌∷◌, [], ℕ, suc, IfOk, map};
+ghost use Rattle.std.specs.Prelude.{◌≡◌, ◌+◌, ◌<◌, ◌^◌, ◌++◌, ◌∷◌, [], ℕ, false, suc, IfOk, map};
 ghost use Rattle.pg_frames.specs.View.{stage_of};
 ghost use Rattle.pg_goal.specs.View.{goal_of};
 ghost use Rattle.pg_logic.specs.Tree as tree;
 ghost use Rattle.pg_moves.specs.Frames as frames;
 ghost use Rattle.pg_terms.specs.View.{term, terms, formula};
 ghost use Rattle.pg_rewrites.specs.Applying.{asking, stages};
+ghost use Rattle.pg_rewrites.specs.Searching.{strips};
 ghost use Rattle.pg_rewrites.specs.Staging.{made};
 
 use pg_frames::Stage;
@@ -60,7 +61,7 @@ fn further(
             Some(t) => at_binder(alloc, stages, body, t, used),
         },
         Formula::Imp(left, right) => at_antecedent(stages, left, right, used),
-        other => unchanged(alloc, stages, other, used),
+        other => plain(alloc, stages, other, used, by),
     }
 }
 
@@ -75,6 +76,21 @@ fn unchanged(
 {
     let rest = Boxed::new(alloc, rest)?;
     Ok(Partial { stages, rest, used })
+}
+
+/// Nothing is taken off where no binder and no antecedent is.
+fn plain(
+    alloc: Global,
+    stages: Items<Stage>,
+    rest: Formula,
+    used: usize,
+    by: &[Boxed<Term>],
+) -> Result<Partial, AllocError>
+    requires { strips (formula rest) ≡ false }
+    ensures { IfOk result (λ r. (k : ℕ) → made by.now k r ≡ made by.now (suc k) (record { stages = stages; rest = rest; used = used })) }
+{
+    let _ = by;
+    unchanged(alloc, stages, rest, used)
 }
 
 /// A binder is taken off, for which the term stands.
