@@ -10,13 +10,13 @@ match_formula-requires-clause-holes c =
 
 pub fixed-requires-clause-few : goal.fixed-requires-clause-few
 fixed-requires-clause-few c =
-    (left-firsts (formula c.args.a.now) (formula c.in-Some.left.now) (formula c.args.subject.now) c.without_binders-form.result.count c.in_ok-match_formula.field-0 c.in-Some-match_formula.found c.requires.few (c.without_binders-form.ensures.count [] refl) c.in-Some-match_formula.is c.in_ok-match_formula.ensures).few
+    (left-firsts (formula c.args.a.now) (formula c.in-Some.left.now) (formula c.args.subject.now) c.without_binders-form.result.count c.in_ok-match_formula.field-0 c.in-Some-2.found c.requires.few (c.without_binders-form.ensures.count [] refl) c.in-Some-2.is c.in_ok-match_formula.ensures).few
 
 pub fixed-requires-clause-names : goal.fixed-requires-clause-names
 fixed-requires-clause-names c =
-    (left-firsts (formula c.args.a.now) (formula c.in-Some.left.now) (formula c.args.subject.now) c.without_binders-form.result.count c.in_ok-match_formula.field-0 c.in-Some-match_formula.found c.requires.few (c.without_binders-form.ensures.count [] refl) c.in-Some-match_formula.is c.in_ok-match_formula.ensures).names
+    (left-firsts (formula c.args.a.now) (formula c.in-Some.left.now) (formula c.args.subject.now) c.without_binders-form.result.count c.in_ok-match_formula.field-0 c.in-Some-2.found c.requires.few (c.without_binders-form.ensures.count [] refl) c.in-Some-2.is c.in_ok-match_formula.ensures).names
 
-pub returns-in-Some-match_formula : goal.returns-in-Some-match_formula
-returns-in-Some-match_formula c =
-    forward-yields (formula c.args.a.now) (formula c.in-Some.left.now) (formula c.args.subject.now) c.without_binders-form.result.count c.in_ok-match_formula.field-0 c.in-Some-match_formula.found c.fixed.result c.requires.few
-    (ap left_side (sym (c.without_binders-form.ensures.rest [])) ∙ sym c.in-Some.ensures) (c.without_binders-form.ensures.count [] refl) c.in-Some-match_formula.is c.in_ok-match_formula.ensures c.fixed.ensures
+pub returns-in-Some-2 : goal.returns-in-Some-2
+returns-in-Some-2 c =
+    forward-yields (formula c.args.a.now) (formula c.in-Some.left.now) (formula c.args.subject.now) c.without_binders-form.result.count c.in_ok-match_formula.field-0 c.in-Some-2.found c.fixed.result c.requires.few
+    (ap left_side (sym (c.without_binders-form.ensures.rest [])) ∙ sym c.in-Some.ensures) (c.without_binders-form.ensures.count [] refl) c.in-Some-2.is c.in_ok-match_formula.ensures c.fixed.ensures
