@@ -1,31 +1,31 @@
 -- From what is given, and the terms of an instance, to what the acts do.
-use Rattle.std.proofs.Common.{◌≡◌, ℕ, zero, suc, ◌+◌, ◌≤◌, List, [], ◌∷◌, ◌++◌, length, map, Bool, true, false, ◌&&◌, Option, Some, None, refl, arith, ap, sym, ◌∙◌, subst}
-use Rattle.std.specs.Prelude.{Result, Ok, Err, slice_get, nat_lt, if◌then◌else◌}
+use Rattle.std.proofs.Common.{◌≡◌, ℕ, ◌+◌, List, [], ◌∷◌, ◌++◌, length, map, Bool, true, false, Some, None, refl, arith, ap, sym, ◌∙◌, subst}
+use Rattle.std.specs.Prelude.{Result, Ok, Err}
 use Rattle.std.proofs.lemmas.Bool.{and_parts, and_from}
 use Rattle.pg_base.specs.Tokens.{Word}
-use Rattle.pg_logic.specs.Tree.{Tm, free, bound, nought, succ, app, Fm, falsum, eq, pred, and, or, imp, all, ex, same_formula, opened_formula, nodes_of}
+use Rattle.pg_logic.specs.Tree.{Tm, free, bound, nought, succ, app, Fm, falsum, eq, pred, and, or, imp, all, ex, same_formula, opened_formula}
 use Rattle.pg_logic.specs.Signature.{Signature, fits, fits_term}
-use Rattle.pg_logic.specs.Declarations.{Name, signature_of}
+use Rattle.pg_logic.specs.Declarations.{signature_of}
 use Rattle.pg_logic.specs.Kernel.{Pf, hyp, impe, repl}
-use Rattle.pg_script.specs.Data.{Part, Expression, Rule}
+use Rattle.pg_script.specs.Data.{Expression, Rule}
 use Rattle.pg_moves.specs.Acts.{Act, Apply, ApplyAt, Rewrite, RewriteAt}
-use Rattle.pg_moves.specs.Assuming.{Found, hypothesis, hypothesis_there, changed_to}
+use Rattle.pg_moves.specs.Assuming.{Found, hypothesis, changed_to}
 use Rattle.pg_moves.specs.Causes.{Cause, Tried, WrongShape, NoInstance, NoSuchName, and_then, wanted}
 use Rattle.pg_moves.specs.Closing.{given}
 use Rattle.pg_moves.specs.Frames.{Stage, asked, Frame, applied, cut, flipped, Turns}
 use Rattle.pg_moves.specs.Frames as frames
 use Rattle.pg_moves.specs.Goals.{Goal, aimed}
-use Rattle.pg_moves.specs.Instances.{Values, filled, filled_formula, terms_of, formula_instance, first_instance}
+use Rattle.pg_moves.specs.Instances.{filled, filled_formula, formula_instance, first_instance}
 use Rattle.pg_moves.specs.Lookup.{Lookup, IsAvailable}
 use Rattle.pg_moves.specs.Proofs.{Sequent, Proves, AllProve, hyp_formula, sequent}
 use Rattle.pg_moves.specs.Replaced.{replaced_formula, abstracted_formula}
 use Rattle.pg_moves.specs.Rewriting.{Sides, sides, not_bare, no_binder, exchanged, rewritten_by, rewritten, forward}
 use Rattle.pg_moves.specs.Rewriting as rewriting
 use Rattle.pg_moves.specs.Steps.{new_goals}
-use Rattle.pg_moves.specs.Stripped.{Antecedent, Stripped, Matched, fewest, fixed, unbound, antecedent_at}
+use Rattle.pg_moves.specs.Stripped.{Antecedent, Stripped, fewest, fixed, unbound, antecedent_at}
 use Rattle.pg_moves.proofs.Applied.{instance-is}
 use Rattle.pg_moves.proofs.ByRecursion.{AllFit, AllFitting, Fits}
-use Rattle.pg_moves.proofs.Filled.{AreClosed, filled-imp, filled-eq}
+use Rattle.pg_moves.proofs.Filled.{filled-imp, filled-eq}
 use Rattle.pg_moves.proofs.Fitted.{fits-replaced}
 use Rattle.pg_moves.proofs.Given.{Sound, fit_at}
 use Rattle.pg_moves.proofs.Good.{FewVars, Good, one_goal}
@@ -37,7 +37,6 @@ use Rattle.pg_moves.proofs.Rules.{gives as from_gives, by_hyp, by_impe, by_repl,
 use Rattle.pg_moves.proofs.Sequents.{then-ok, wanted-ok}
 use Rattle.pg_moves.proofs.Turning.{at, turn-rewrite}
 use Rattle.pg_goal.specs.Conditions.{IsProved}
-use Rattle.pg_goal.specs.View.{goal_of}
 use Rattle.pg_frames.specs.View.{frames_of}
 use Rattle.pg_reduction.specs.declared.cause.ActFault.{ActFault}
 use Rattle.pg_reduction.specs.declared.cause.ActFault.TheVariants.{Stop, OutOfMemory}
@@ -143,9 +142,9 @@ module _ (l : Lookup) (g : Goal) (ready : IsReady l g) where
       let q : record { terms = ts; steps = steps_of m.form } ≡ f = cc in
       subst (Applies e a p) q (
         ap (λ x. and_then x (λ a. and_then (wanted (fewest a g.target) NoInstance) (rewriting.applied g))) is
-        ∙ ap (λ x. and_then x (rewriting.applied g)) y.1
-        ∙ ap (λ x. and_then x (λ ts. Ok (map (λ h. aimed (antecedent_at ts h) g) m.form.antecedents))) z.1
-        ∙ ap Ok (sym goals),
+            ∙ ap (λ x. and_then x (rewriting.applied g)) y.1
+            ∙ ap (λ x. and_then x (λ ts. Ok (map (λ h. aimed (antecedent_at ts h) g) m.form.antecedents))) z.1
+            ∙ ap Ok (sym goals),
         does.by-good l g ready (asking g st) (applied st p ∷ []) good,
       )
 

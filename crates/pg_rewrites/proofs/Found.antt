@@ -1,5 +1,5 @@
 -- The values that are found: as many as there are binders, whose names are the first ones.
-use Rattle.std.proofs.Common.{◌≡◌, ℕ, ◌+◌, ◌≤◌, ◌<◌, ◌^◌, List, [], ◌∷◌, ◌++◌, length, map, take, Bool, true, false, ◌&&◌, Option, Some, None, refl, arith, ap, sym, ◌∙◌, subst}
+use Rattle.std.proofs.Common.{◌≡◌, ℕ, ◌≤◌, ◌<◌, ◌^◌, List, [], ◌∷◌, ◌++◌, length, take, Bool, true, false, ◌&&◌, Option, Some, None, refl, arith, ap, sym, ◌∙◌, subst}
 use Rattle.std.specs.Prelude.{Result, Ok, Err, option_map, if◌then◌else◌}
 use Rattle.std.specs.List.{list_all}
 use Rattle.std.proofs.lemmas.List.{length-map}
@@ -7,23 +7,21 @@ use Rattle.pg_logic.specs.Tree.{Tm, free, bound, nought, succ, app, Fm, is_tight
 use Rattle.pg_logic.specs.Declarations.{Name}
 use Rattle.pg_terms.specs.declared.term.Term.{Term}
 use Rattle.pg_terms.specs.View.{term, terms}
-use Rattle.pg_moves.specs.Causes.{Cause, Tried, WrongShape, NoInstance, and_then, wanted}
+use Rattle.pg_moves.specs.Causes.{NoInstance, and_then, wanted}
 use Rattle.pg_moves.specs.Instances.{Values, filled_formula, standing_formula, values_of, terms_of, is_closed, formula_instance, term_instance, first_found, first_instance, subterms_of, filled, standing}
-use Rattle.pg_moves.specs.Stripped.{Stripped, Matched, strippings, fewest, fixed, unbound}
+use Rattle.pg_moves.specs.Stripped.{Matched, strippings, fewest, fixed, unbound}
 use Rattle.pg_moves.proofs.Rewritten.{length-values}
-use Rattle.pg_match.specs.View.{values, found_values}
+use Rattle.pg_match.specs.View.{found_values}
 use Rattle.pg_match.specs.declared.found.Found.{Found}
 use Rattle.pg_reduction.specs.declared.cause.ActFault.{ActFault}
 use Rattle.pg_reduction.specs.declared.cause.ActFault.TheVariants.{Stop, OutOfMemory}
 use Rattle.pg_reduction.specs.Doing.{Yields}
-use Rattle.pg_reduction.specs.View.{cause_of}
 use Rattle.pg_rewrites.specs.declared.applying.Fewest.{Fewest}
-use Rattle.pg_rewrites.specs.declared.applying.Fit as rust
 use Rattle.std.proofs.lemmas.Bool.{and_parts}
 use Rattle.pg_match.specs.Answers.{is_bare}
 use Rattle.pg_moves.specs.Rewriting.{Sides, sides, not_bare, no_binder}
 use Rattle.pg_rewrites.specs.Rewriting.{instance_terms, rule_terms}
-use Rattle.pg_rewrites.specs.Applying.{Fit, steps_of, fitted, fit, forward_terms}
+use Rattle.pg_rewrites.specs.Applying.{steps_of, fitted, fit, forward_terms}
 use Rattle.pg_rewrites.specs.Searching.{left_side, old_side, looks, Short, short, shortened}
 use Rattle.pg_rewrites.specs.Taking.{binder_names}
 use Rattle.pg_rewrites.specs.View.{fit_of}

@@ -1,8 +1,8 @@
 -- What an expression gives has at most 4,096 nodes.
-use Rattle.std.proofs.Common.{◌≡◌, ◌≤◌, ◌<◌, ℕ, zero, suc, List, [], ◌∷◌, Bool, true, false, refl, arith, subst, ap, sym, ◌∙◌}
+use Rattle.std.proofs.Common.{◌≡◌, ◌≤◌, ℕ, zero, suc, List, [], ◌∷◌, Bool, true, false, refl, arith, subst}
 use Rattle.std.specs.Prelude.{Ok, Err, nat_lt, if◌then◌else◌}
 use Rattle.std.proofs.lemmas.Bool.Decides.{nat_tests}
-use Rattle.pg_logic.specs.Tree.{Fm, falsum, eq, pred, and, or, imp, all, ex, same_formula, opened_formula, nodes_of}
+use Rattle.pg_logic.specs.Tree.{Fm, falsum, eq, pred, and, or, imp, all, ex, opened_formula, nodes_of}
 use Rattle.pg_script.specs.Data.{Part, Expression}
 use Rattle.pg_moves.specs.Causes.{and_then, wanted}
 use Rattle.pg_moves.specs.Closing.{given}

@@ -1,6 +1,6 @@
 -- One step along a formula.
-use Rattle.std.proofs.Common.{◌≡◌, ℕ, zero, suc, ◌+◌, List, [], ◌∷◌, ◌++◌, length, map, drop, Bool, true, false, Option, Some, None, refl, arith, ap, sym, ◌∙◌, subst, append_assoc}
-use Rattle.std.specs.Prelude.{Result, Ok, Err, IfOk, slice_get, if◌then◌else◌}
+use Rattle.std.proofs.Common.{◌≡◌, ℕ, zero, suc, ◌+◌, List, [], ◌∷◌, ◌++◌, map, drop, false, Some, None, refl, arith, ap, sym, ◌∙◌, subst, append_assoc}
+use Rattle.std.specs.Prelude.{Result, Ok, Err, IfOk, slice_get}
 use Rattle.pg_logic.specs.Tree.{Tm, Fm, falsum, eq, pred, and, or, imp, all, ex, opened_formula}
 use Rattle.pg_terms.specs.declared.term.Term.{Term}
 use Rattle.pg_terms.specs.declared.formula.Formula.{Formula}
@@ -8,7 +8,7 @@ use Rattle.pg_terms.specs.declared.formula.Formula.TheOpen.{Formula-F}
 use Rattle.pg_terms.specs.declared.formula.Formula.TheVariants.{All, Imp, rolls-All, rolls-Imp}
 use Rattle.pg_terms.specs.declared.formula.Formula.TheFolds.{fold-roll-Formula}
 use Rattle.pg_terms.specs.View.{term, terms, formula_step, formula}
-use Rattle.pg_moves.specs.Frames.{Stage, for_all, where_so}
+use Rattle.pg_moves.specs.Frames.{for_all, where_so}
 use Rattle.pg_moves.proofs.Moved.{append_nil}
 use Rattle.pg_frames.specs.View.{stage_of}
 use Rattle.pg_rewrites.specs.Applying.{stages}

@@ -4,7 +4,6 @@ use Rattle.std.specs.Prelude.{Option, Ok, Err, slice_get}
 use Rattle.pg_logic.specs.Tree.{Fm, falsum, eq, pred, and, or, imp, all, ex, is_tight_formula, nodes_of}
 use Rattle.pg_logic.specs.Declarations.{Name}
 use Rattle.pg_terms.specs.View.{terms}
-use Rattle.pg_moves.specs.Causes as causes
 use Rattle.pg_moves.specs.Instances.{Values}
 use Rattle.pg_moves.specs.Stripped.{unbound, fixed}
 use Rattle.pg_match.specs.Answers.{Determines}

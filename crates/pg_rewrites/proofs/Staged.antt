@@ -1,12 +1,11 @@
 -- The stages of `apply`: what they take off, and what they ask for.
 use Rattle.std.proofs.Common.{◌≡◌, ℕ, zero, suc, ◌+◌, ◌≤◌, ◌⊎◌, List, [], ◌∷◌, ◌++◌, length, map, take, true, Option, Some, None, refl, arith, ap, sym, ◌∙◌, subst, length-append, append_assoc, ⊎_elim, inl, inr}
-use Rattle.std.specs.Prelude.{option_map}
 use Rattle.std.proofs.lemmas.Bool.{and_parts}
 use Rattle.pg_logic.specs.Tree.{Tm, Fm, falsum, eq, pred, and, or, imp, all, ex, same_formula, opened_formula}
 use Rattle.pg_logic.specs.Signature.{Signature, fits}
 use Rattle.pg_logic.specs.Declarations.{Name}
 use Rattle.pg_logic.proofs.Fitting.{fits-opened}
-use Rattle.pg_moves.specs.Frames.{Stage, for_all, where_so, asked}
+use Rattle.pg_moves.specs.Frames.{Stage, asked}
 use Rattle.pg_moves.specs.Instances.{Values, filled_formula, formula_instance, first_found}
 use Rattle.pg_moves.specs.Stripped.{Antecedent, Stripped, stripped, strippings, Matched, with_values, antecedent_at}
 use Rattle.pg_moves.proofs.Applied.{looks}

@@ -1,7 +1,7 @@
 -- What is given, taken at terms that fit, fits and is proved, and is the formula with its holes filled.
-use Rattle.std.proofs.Common.{◌≡◌, ℕ, ◌+◌, List, [], ◌∷◌, ◌++◌, length, map, true, refl, arith, ap, sym, ◌∙◌, subst, append_assoc, length-append}
+use Rattle.std.proofs.Common.{◌≡◌, ◌+◌, List, [], ◌∷◌, ◌++◌, length, map, arith, ap, sym, ◌∙◌, append_assoc, length-append}
 use Rattle.pg_logic.specs.Tree.{Tm, Fm, falsum, eq, pred, and, or, imp, all, ex, opened_formula}
-use Rattle.pg_logic.specs.Signature.{Signature, fits, fits_term}
+use Rattle.pg_logic.specs.Signature.{Signature}
 use Rattle.pg_logic.specs.Declarations.{Name, signature_of}
 use Rattle.pg_logic.specs.Kernel.{Pf, alle}
 use Rattle.pg_logic.proofs.Fitting.{fits-opened}

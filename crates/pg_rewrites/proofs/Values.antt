@@ -1,9 +1,9 @@
 -- The terms of an instance fit, and there is one for each binder.
-use Rattle.std.proofs.Common.{◌≡◌, ℕ, ◌+◌, List, [], ◌∷◌, ◌++◌, length, Bool, true, false, ◌&&◌, Option, Some, None, refl, ap, sym, ◌∙◌, subst}
-use Rattle.std.specs.Prelude.{Ok, if◌then◌else◌}
+use Rattle.std.proofs.Common.{◌≡◌, ℕ, ◌+◌, List, [], ◌∷◌, ◌++◌, length, Bool, true, false, ◌&&◌, Option, Some, None, refl, subst}
+use Rattle.std.specs.Prelude.{if◌then◌else◌}
 use Rattle.std.specs.List.{list_all}
 use Rattle.std.proofs.lemmas.Bool.{and_parts, and_from}
-use Rattle.pg_logic.specs.Tree.{Tm, free, bound, nought, succ, app, Tms, none, arg, Fm, falsum, eq, pred, and, or, imp, all, ex, same, is_tight, are_tight, is_tight_formula, nodes_of, opened_formula}
+use Rattle.pg_logic.specs.Tree.{Tm, free, bound, nought, succ, app, Tms, none, arg, Fm, falsum, eq, pred, and, or, imp, all, ex, same, is_tight, are_tight, is_tight_formula}
 use Rattle.pg_logic.specs.Signature.{Function, Signature, fits, fits_term, fits_terms}
 use Rattle.pg_moves.specs.Instances.{Values, filled, standing, values_of, terms_of, is_closed, term_instance, subterms, subterms_in, subterms_of, first_found, first_instance}
 use Rattle.pg_moves.proofs.Rewritten.{SomeDepth, ValuesFit, values-fit, length-values, standing-fits}

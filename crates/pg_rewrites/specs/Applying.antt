@@ -1,10 +1,10 @@
 -- `apply e`, `apply e at h`: the terms for the binders that are stripped, and the frames.
-use Rattle.std.specs.Prelude.{ℕ, zero, suc, ◌+◌, List, [], ◌∷◌, map, length, Ok, Err}
+use Rattle.std.specs.Prelude.{ℕ, suc, ◌+◌, List, [], ◌∷◌, map, length, Ok, Err}
 use Rattle.pg_logic.specs.Tree.{Tm, Fm, imp, all, opened_formula}
 use Rattle.pg_logic.specs.Kernel.{Pf, hyp, impe}
-use Rattle.pg_moves.specs.Assuming.{Found, changed_to}
+use Rattle.pg_moves.specs.Assuming.{Found}
 use Rattle.pg_moves.specs.Causes.{Tried, WrongShape, NoInstance, and_then, wanted}
-use Rattle.pg_moves.specs.Frames.{Stage, for_all, where_so, asked, Frame, applied, cut}
+use Rattle.pg_moves.specs.Frames.{Stage, for_all, where_so, asked}
 use Rattle.pg_moves.specs.Goals.{Goal, aimed}
 use Rattle.pg_moves.specs.Instances.{formula_instance}
 use Rattle.pg_moves.specs.Stripped.{Stripped, Matched, fewest, fixed, unbound}

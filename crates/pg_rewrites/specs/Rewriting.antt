@@ -1,10 +1,10 @@
 -- `rw [r]`, `rw [r] at h`: the equation at the terms of the instance, and the frames.
-use Rattle.std.specs.Prelude.{Bool, List, [], ◌∷◌, length, Ok, Err, if◌then◌else◌}
+use Rattle.std.specs.Prelude.{Bool, List, [], ◌∷◌, length, Ok, if◌then◌else◌}
 use Rattle.pg_logic.specs.Tree.{Tm, Fm}
 use Rattle.pg_logic.specs.Kernel.{Pf, hyp, repl}
 use Rattle.pg_moves.specs.Assuming.{Found}
 use Rattle.pg_moves.specs.Causes.{Tried, NoInstance, and_then, wanted}
-use Rattle.pg_moves.specs.Frames.{Frame, rewrite, cut, flipped}
+use Rattle.pg_moves.specs.Frames.{Frame, rewrite, flipped}
 use Rattle.pg_moves.specs.Instances.{first_instance}
 use Rattle.pg_moves.specs.Replaced.{replaced_formula, abstracted_formula}
 use Rattle.pg_moves.specs.Rewriting.{Sides, sides, no_binder}

@@ -1,5 +1,5 @@
 -- What a search for the fewest binders and antecedents answers.
-use Rattle.std.specs.Prelude.{ℕ, ◌+◌, length, Bool, true, false, Option, Some, None, if◌then◌else◌}
+use Rattle.std.specs.Prelude.{ℕ, length, Bool, true, false, Option, Some, None, if◌then◌else◌}
 use Rattle.std.specs.Borrow.{Bor}
 use Rattle.pg_logic.specs.Tree.{Tm, Fm, eq, imp, all}
 use Rattle.pg_terms.specs.declared.term.Term.{Term}

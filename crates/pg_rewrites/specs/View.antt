@@ -1,14 +1,10 @@
 -- What the Rust types of this crate stand for, and what their calls answer.
-use Rattle.std.specs.Prelude.{ℕ, ◌≡◌, List, [], Option, Some, None, length}
+use Rattle.std.specs.Prelude.{◌≡◌, Option, Some, None}
 use Rattle.pg_logic.specs.Declarations.{Name}
 use Rattle.pg_terms.specs.View.{term, terms, formula}
 use Rattle.pg_kernel.specs.View.{proof}
 use Rattle.pg_goal.specs.declared.expression.Given.{Given}
 use Rattle.pg_moves.specs.Causes as causes
-use Rattle.pg_moves.specs.Rewriting.{Sides}
-use Rattle.pg_moves.specs.Stripped.{Stripped}
-use Rattle.pg_moves.specs.Instances.{Values}
-use Rattle.pg_match.specs.View.{found_values}
 use Rattle.pg_reduction.specs.View.{cause_of}
 use Rattle.pg_reduction.specs.declared.cause.ActFault.{ActFault}
 use Rattle.pg_reduction.specs.declared.cause.ActFault.TheVariants.{Stop, OutOfMemory}

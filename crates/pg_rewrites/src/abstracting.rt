@@ -100,10 +100,7 @@ fn marked(alloc: Global, mark: &Mark<'_>, depth: u32, t: &Term) -> Result<Term, 
         Term::Free(i) => Ok(Term::Free(*i)),
         Term::Bound(i) => Ok(Term::Bound(*i)),
         Term::Zero => Ok(Term::Zero),
-        Term::Succ(t) => Ok(Term::Succ(Boxed::new(
-            alloc,
-            marked(alloc, mark, depth, t.get())?,
-        )?)),
+        Term::Succ(t) => Ok(Term::Succ(Boxed::new(alloc, marked(alloc, mark, depth, t.get())?)?)),
         Term::App(f, ts) => Ok(Term::App(*f, marked_all(alloc, mark, depth, ts.as_slice())?)),
     }
 }

@@ -30,7 +30,9 @@ use pg_frames::Frame;
 use pg_goal::{Given, Goal, Lookup};
 use pg_kernel::Proof;
 use pg_match::match_formula;
-use pg_reduction::{ActFault, Cause, Found, Reduction, boxed, changed_to, given_there, hypothesis_of, one};
+use pg_reduction::{
+    ActFault, Cause, Found, Reduction, boxed, changed_to, given_there, hypothesis_of, one,
+};
 use pg_script::Expr;
 use pg_terms::{Formula, Term};
 use sqlite_items::{Boxed, Items};
@@ -226,11 +228,7 @@ fn detached(alloc: Global, f: &Found<'_>, given: Given) -> Result<Given, ActFaul
 }
 
 /// The proof of the right side of an implication whose left side the hypothesis says.
-fn by_hypothesis(
-    alloc: Global,
-    f: &Found<'_>,
-    by: Boxed<Proof>,
-) -> Result<Boxed<Proof>, AllocError>
+fn by_hypothesis(alloc: Global, f: &Found<'_>, by: Boxed<Proof>) -> Result<Boxed<Proof>, AllocError>
     ensures { IfOk result (λ p. proof p ≡ logic.impe (formula f.now.hyp.now.formula) (proof by) (logic.hyp f.now.number)) }
 {
     let known = Boxed::new(alloc, Proof::Hyp(f.number))?;
@@ -249,5 +247,10 @@ pub fn reworded(
 {
     let Given { formula, proof } = next;
     let changed = changed_to(alloc, goal, f, boxed(alloc, formula.get())?)?;
-    one(alloc, Items::new(alloc), Frame::Cut(formula, proof), changed)
+    one(
+        alloc,
+        Items::new(alloc),
+        Frame::Cut(formula, proof),
+        changed,
+    )
 }

@@ -26,7 +26,10 @@ use pg_frames::Frame;
 use pg_goal::{Given, Goal, Lookup};
 use pg_kernel::Proof;
 use pg_match::{MatchFault, replaced};
-use pg_reduction::{ActFault, Cause, Found, Measure, Reduction, changed_to, first_large_goal, given_there, hypothesis_of, one};
+use pg_reduction::{
+    ActFault, Cause, Found, Measure, Reduction, changed_to, first_large_goal, given_there,
+    hypothesis_of, one,
+};
 use pg_script::RwRule;
 use pg_terms::Formula;
 use sqlite_items::{Boxed, Items};
@@ -92,7 +95,12 @@ fn aimed(
         flipped(alloc, old.get(), new.get(), proof)?
     };
     let next = goal.aimed(alloc, a)?;
-    one(alloc, Items::new(alloc), Frame::Rewrite(body, new, old, by), next)
+    one(
+        alloc,
+        Items::new(alloc),
+        Frame::Rewrite(body, new, old, by),
+        next,
+    )
 }
 
 /// `rw [r] at h`: as `rw [r]`, in the hypothesis of this name. It dies, and a new one of its name is the
@@ -169,7 +177,13 @@ fn said(
     };
     let proof = Boxed::new(
         alloc,
-        Proof::Repl(body.into_inner(), old.into_inner(), new.into_inner(), by, known),
+        Proof::Repl(
+            body.into_inner(),
+            old.into_inner(),
+            new.into_inner(),
+            by,
+            known,
+        ),
     )?;
     Ok(Given { formula: a, proof })
 }

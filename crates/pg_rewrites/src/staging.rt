@@ -47,11 +47,7 @@ pub fn stages(
 }
 
 /// One binder or antecedent more, if one is there.
-fn further(
-    alloc: Global,
-    partial: Partial,
-    by: &[Boxed<Term>],
-) -> Result<Partial, AllocError>
+fn further(alloc: Global, partial: Partial, by: &[Boxed<Term>]) -> Result<Partial, AllocError>
     ensures { IfOk result (λ r. (k : ℕ) → made by.now k r ≡ made by.now (suc k) partial) }
 {
     let Partial { stages, rest, used } = partial;

@@ -1,4 +1,4 @@
-use Rattle.std.proofs.Common.{rules, ◌≡◌, ap, sym, ◌∙◌, subst}
+use Rattle.std.proofs.Common.{rules, ◌≡◌, ap, ◌∙◌, subst}
 use Rattle.pg_logic.specs.Tree.{falsum}
 use Rattle.pg_terms.specs.View.{term, formula}
 use Rattle.pg_moves.specs.Goals.{aimed}

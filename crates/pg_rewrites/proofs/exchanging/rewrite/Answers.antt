@@ -1,7 +1,7 @@
-use Rattle.std.proofs.Common.{◌≡◌, ◌≤◌, length, sym, subst}
+use Rattle.std.proofs.Common.{◌≡◌, length, sym, subst}
 use Rattle.std.specs.Prelude.{Ok, Err, IsTrue}
 use Rattle.pg_logic.specs.Declarations.{signature_of}
-use Rattle.pg_logic.specs.Tree.{nodes_of, is_tight_formula}
+use Rattle.pg_logic.specs.Tree.{is_tight_formula}
 use Rattle.pg_kernel.specs.View.{proof}
 use Rattle.pg_script.specs.View.{rule, expression}
 use Rattle.pg_terms.specs.View.{formula}

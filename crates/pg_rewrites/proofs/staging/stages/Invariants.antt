@@ -1,6 +1,4 @@
 use Rattle.std.proofs.Common.{◌≡◌}
-use Rattle.pg_terms.specs.View.{terms, formula}
-use Rattle.pg_rewrites.specs.Applying.{stages}
 use Rattle.pg_rewrites.specs.Staging.{made}
 use Rattle.pg_rewrites.proofs.staging.stages.Given as goal
 

@@ -1,4 +1,4 @@
-use Rattle.std.proofs.Common.{length, sym}
+use Rattle.std.proofs.Common.{length}
 use Rattle.pg_match.specs.View.{found_values}
 use Rattle.pg_terms.specs.View.{formula}
 use Rattle.pg_rewrites.specs.Taking.{binder_names}
