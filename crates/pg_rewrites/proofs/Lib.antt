@@ -1,0 +1,10 @@
+pub mod Depths
+pub mod Doing
+pub mod Found
+pub mod Given
+pub mod Limits
+pub mod Making
+pub mod Names
+pub mod Staged
+pub mod Taken
+pub mod Values

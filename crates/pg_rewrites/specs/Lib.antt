@@ -1,0 +1,8 @@
+pub mod Applying
+pub mod Depth
+pub mod Exchanging
+pub mod Rewriting
+pub mod Searching
+pub mod Staging
+pub mod Taking
+pub mod View

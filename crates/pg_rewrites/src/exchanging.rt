@@ -1,0 +1,210 @@
+// `rw [r]`, `rw [r] at h`.
+ghost use Rattle.std.specs.Prelude.{◌≡◌, ◌<◌, ◌^◌, ◌∷◌, [], IfOk};
+ghost use Rattle.pg_base.specs.Tokens.{word};
+ghost use Rattle.pg_goal.specs.Conditions.{IsCounted, AreTexts};
+ghost use Rattle.pg_goal.specs.View.{goal_of, lookup_of};
+ghost use Rattle.pg_logic.specs.Tree.{falsum};
+ghost use Rattle.pg_moves.specs.Acts as act;
+ghost use Rattle.pg_moves.specs.Assuming as moves;
+ghost use Rattle.pg_moves.specs.Goals.{aimed};
+ghost use Rattle.pg_moves.specs.Measures.{first_over, goal_measures};
+ghost use Rattle.pg_script.specs.View as script;
+ghost use Rattle.pg_terms.specs.View.{formula};
+ghost use Rattle.pg_reduction.specs.Doing.{IsReady, DoesWithin, Has};
+ghost use Rattle.pg_reduction.specs.Named.{found_of};
+ghost use Rattle.pg_rewrites.specs.Depth.{binder_depth};
+ghost use Rattle.pg_rewrites.specs.Exchanging.{IsFirstLimit, MakesWithin, cutting};
+ghost use Rattle.pg_rewrites.specs.Rewriting.{rewriting, reworded, rewritten_in};
+ghost use Rattle.pg_rewrites.specs.View.{claim, equation_of};
+
+use crate::abstracting::abstracted_formula;
+use crate::applying::reworded;
+use crate::flipping::flipped;
+use crate::rewriting::{Equation, rule_equation};
+use pg_base::Token;
+use pg_frames::Frame;
+use pg_goal::{Given, Goal, Lookup};
+use pg_kernel::Proof;
+use pg_match::{MatchFault, replaced};
+use pg_reduction::{
+    ActFault, Cause, Found, Measure, Reduction, changed_to, first_large_goal, given_there,
+    hypothesis_of, one,
+};
+use pg_script::RwRule;
+use pg_terms::Formula;
+use sqlite_items::{Boxed, Items};
+use std::alloc::{AllocError, Global};
+
+/// `rw [r]`: the expression gives an equation under leading binders. In the target, every occurrence of
+/// the first instance of its left side becomes the right side; backwards the sides change places.
+///
+/// It stops by the cause of the expression where this gives nothing, then by `WrongShape`, then by
+/// `BarePattern` where the side to be replaced is a binder alone, then by `NoInstance`, then by
+/// `Undetermined` with the name of the first binder that the instance doesn't fix. A formula of more
+/// than 4,096 nodes isn't made: it stops by the first limit that the new goal would pass.
+pub fn rewrite(
+    alloc: Global,
+    goal: &Goal,
+    rule: &RwRule<'_>,
+    lookup: &Lookup<'_>,
+) -> Result<Reduction, ActFault>
+    requires ready { IsReady (lookup_of lookup.now) (goal_of goal.now) }
+    requires counted { IsCounted (lookup_of lookup.now) (goal_of goal.now) }
+    requires texts { AreTexts (script.expression rule.now.expr).args }
+    ensures { DoesWithin (lookup_of lookup.now) (goal_of goal.now) (act.Rewrite (script.rule rule.now)) result }
+{
+    match given_there(alloc, goal, &rule.expr, lookup) {
+        Ok(given) => match rule_equation(alloc, rule.back, given, goal.target.get()) {
+            Ok(e) => exchanged(alloc, goal, rule.back, e),
+            Err(fault) => Err(fault),
+        },
+        Err(fault) => Err(fault),
+    }
+}
+
+/// The target rewritten by an equation.
+fn exchanged(alloc: Global, goal: &Goal, back: bool, e: Equation) -> Result<Reduction, ActFault>
+    ensures { MakesWithin (aimed (rewritten_in (formula goal.now.target) (equation_of e)) (goal_of goal.now) ∷ []) (rewriting back (formula goal.now.target) (equation_of e)) result }
+{
+    match replaced(alloc, goal.target.get(), e.old.get(), e.new.get(), 4096) {
+        Ok(a) => Ok(aimed(alloc, goal, back, e, a)?),
+        Err(MatchFault::TooLarge { size }) => {
+            let small = goal.aimed(alloc, falsum(alloc)?)?;
+            Err(ActFault::Stop(first_limit(&small, size)))
+        }
+        Err(_) => Err(ActFault::OutOfMemory),
+    }
+}
+
+/// The goal with the rewritten target.
+fn aimed(
+    alloc: Global,
+    goal: &Goal,
+    back: bool,
+    e: Equation,
+    a: Boxed<Formula>,
+) -> Result<Reduction, AllocError>
+    requires { binder_depth (formula goal.now.target) < 2 ^ 32 }
+    ensures { IfOk result (Has (aimed (formula a) (goal_of goal.now) ∷ []) (rewriting back (formula goal.now.target) (equation_of e))) }
+{
+    let body = abstracted_formula(alloc, e.old.get(), goal.target.get())?;
+    let Equation { old, new, proof } = e;
+    let by = if back {
+        proof
+    } else {
+        flipped(alloc, old.get(), new.get(), proof)?
+    };
+    let next = goal.aimed(alloc, a)?;
+    one(
+        alloc,
+        Items::new(alloc),
+        Frame::Rewrite(body, new, old, by),
+        next,
+    )
+}
+
+/// `rw [r] at h`: as `rw [r]`, in the hypothesis of this name. It dies, and a new one of its name is the
+/// rewritten formula.
+///
+/// It stops by `NoSuchName` where there is no such hypothesis, and then as `rw [r]` does.
+pub fn rewrite_at(
+    alloc: Global,
+    goal: &Goal,
+    rule: &RwRule<'_>,
+    name: &Token<'_>,
+    lookup: &Lookup<'_>,
+) -> Result<Reduction, ActFault>
+    requires ready { IsReady (lookup_of lookup.now) (goal_of goal.now) }
+    requires counted { IsCounted (lookup_of lookup.now) (goal_of goal.now) }
+    requires texts { AreTexts (script.expression rule.now.expr).args }
+    ensures { DoesWithin (lookup_of lookup.now) (goal_of goal.now) (act.RewriteAt (script.rule rule.now) (word name.now)) result }
+{
+    match hypothesis_of(goal, name.text) {
+        Some(f) => match given_there(alloc, goal, &rule.expr, lookup) {
+            Ok(given) => match rule_equation(alloc, rule.back, given, f.hyp.formula.get()) {
+                Ok(e) => exchanged_at(alloc, goal, &f, rule.back, e),
+                Err(fault) => Err(fault),
+            },
+            Err(fault) => Err(fault),
+        },
+        None => Err(ActFault::Stop(Cause::NoSuchName { at: name.at })),
+    }
+}
+
+/// The hypothesis rewritten by an equation.
+fn exchanged_at(
+    alloc: Global,
+    goal: &Goal,
+    f: &Found<'_>,
+    back: bool,
+    e: Equation,
+) -> Result<Reduction, ActFault>
+    ensures { MakesWithin (moves.changed_to (goal_of goal.now) (found_of f.now) (rewritten_in (formula f.now.hyp.now.formula) (equation_of e)) ∷ []) (cutting (reworded back (found_of f.now) (equation_of e))) result }
+{
+    match replaced(alloc, f.hyp.formula.get(), e.old.get(), e.new.get(), 4096) {
+        Ok(a) => {
+            let next = said(alloc, f, back, e, a)?;
+            Ok(reworded(alloc, goal, f, next)?)
+        }
+        Err(MatchFault::TooLarge { size }) => {
+            let changed = changed_to(alloc, goal, f, falsum(alloc)?)?;
+            let small = changed.aimed(alloc, falsum(alloc)?)?;
+            Err(ActFault::Stop(first_limit(&small, size)))
+        }
+        Err(_) => Err(ActFault::OutOfMemory),
+    }
+}
+
+/// The rewritten hypothesis, with its proof.
+fn said(
+    alloc: Global,
+    f: &Found<'_>,
+    back: bool,
+    e: Equation,
+    a: Boxed<Formula>,
+) -> Result<Given, AllocError>
+    requires depth { binder_depth (formula f.now.hyp.now.formula) < 2 ^ 32 }
+    requires is { formula a ≡ rewritten_in (formula f.now.hyp.now.formula) (equation_of e) }
+    ensures { IfOk result (λ x. claim x ≡ reworded back (found_of f.now) (equation_of e)) }
+{
+    let body = abstracted_formula(alloc, e.old.get(), f.hyp.formula.get())?;
+    let known = Boxed::new(alloc, Proof::Hyp(f.number))?;
+    let Equation { old, new, proof } = e;
+    let by = if back {
+        flipped(alloc, new.get(), old.get(), proof)?
+    } else {
+        proof
+    };
+    let proof = Boxed::new(
+        alloc,
+        Proof::Repl(
+            body.into_inner(),
+            old.into_inner(),
+            new.into_inner(),
+            by,
+            known,
+        ),
+    )?;
+    Ok(Given { formula: a, proof })
+}
+
+/// The first limit that is passed, where a formula of so many nodes, over 4,096, stands behind what is
+/// measured of the goal.
+fn first_limit(small: &Goal, size: u64) -> Cause
+    ensures { IsFirstLimit (first_over (goal_measures (goal_of small.now))) size result }
+{
+    match first_large_goal(small) {
+        Some(cause) => cause,
+        None => Cause::TooLarge {
+            measure: Measure::Nodes,
+            reached: size,
+        },
+    }
+}
+
+/// A false formula.
+fn falsum(alloc: Global) -> Result<Boxed<Formula>, AllocError>
+    ensures { IfOk result (λ r. formula r ≡ falsum) }
+{
+    Boxed::new(alloc, Formula::Falsum)
+}

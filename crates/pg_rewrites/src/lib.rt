@@ -1,0 +1,15 @@
+//! The tactics that match patterns: `rw` and `apply`.
+#![tactic(auto)]
+
+mod abstracting;
+mod applying;
+mod exchanging;
+mod flipping;
+mod rewriting;
+mod staging;
+mod stripping;
+mod taking;
+mod unfixed;
+
+pub use applying::{apply, apply_at};
+pub use exchanging::{rewrite, rewrite_at};

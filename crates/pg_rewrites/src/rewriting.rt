@@ -1,0 +1,111 @@
+// The equation by which a formula is rewritten.
+ghost use Rattle.std.specs.Prelude.{◌≡◌, ◌≤◌, ◌<◌, ◌^◌, [], IsTrue, length, option_map};
+ghost use Rattle.pg_kernel.specs.View.{proof};
+ghost use Rattle.pg_logic.specs.Tree.{nodes_of, is_tight_formula};
+ghost use Rattle.pg_moves.specs.Stripped.{unbound};
+ghost use Rattle.pg_terms.specs.View.{terms, formula};
+ghost use Rattle.pg_reduction.specs.Doing.{Yields};
+ghost use Rattle.pg_rewrites.specs.Rewriting.{equated, equation, rule_terms};
+ghost use Rattle.pg_rewrites.specs.Searching.{lent_term, old_side};
+ghost use Rattle.pg_rewrites.specs.View.{equation_of};
+
+use crate::stripping::without_binders;
+use crate::taking::taken_at;
+use crate::unfixed::fixed;
+use pg_goal::Given;
+use pg_kernel::Proof;
+use pg_match::{MatchFault, first_instance};
+use pg_reduction::{ActFault, Cause};
+use pg_terms::{Formula, Term};
+use sqlite_items::{Boxed, Items};
+use std::alloc::Global;
+
+/// The term that is replaced, the one that stands for it, and a proof of the equation as it was given.
+#[derive(Drop)]
+pub struct Equation {
+    pub old: Boxed<Term>,
+    pub new: Boxed<Term>,
+    pub proof: Boxed<Proof>,
+}
+
+/// The equation by which a formula is rewritten, at the terms of the first instance of its left side,
+/// or its right side backwards.
+///
+/// It stops by `WrongShape` where an equation is not what stands behind the leading binders, then by
+/// `BarePattern`, then by `NoInstance`, then by `Undetermined`.
+pub fn rule_equation(
+    alloc: Global,
+    back: bool,
+    given: Given,
+    subject: &Formula,
+) -> Result<Equation, ActFault>
+    requires few { nodes_of (formula given.formula) ≤ 4096 }
+    requires holes { IsTrue (is_tight_formula 0 (formula given.formula)) }
+    requires tight { IsTrue (is_tight_formula 0 (formula subject.now)) }
+    ensures { Yields equation_of (equation back (formula given.formula) (proof given.proof) (formula subject.now)) result }
+{
+    let terms = match rule_terms(alloc, back, given.formula.get(), subject) {
+        Ok(terms) => terms,
+        Err(fault) => return Err(fault),
+    };
+    let given = taken_at(alloc, given, terms.as_slice())?;
+    equated(alloc, back, given)
+}
+
+/// The sides of what is given, an equation. Else it stops by `WrongShape`.
+fn equated(alloc: Global, back: bool, given: Given) -> Result<Equation, ActFault>
+    ensures { Yields equation_of (equated back (formula given.formula) (proof given.proof)) result }
+{
+    let Given { formula, proof } = given;
+    let Formula::Eq(s, t) = formula.into_inner() else {
+        return Err(ActFault::Stop(Cause::WrongShape));
+    };
+    let s = Boxed::new(alloc, s)?;
+    let t = Boxed::new(alloc, t)?;
+    if back {
+        return Ok(Equation {
+            old: t,
+            new: s,
+            proof,
+        });
+    }
+    Ok(Equation {
+        old: s,
+        new: t,
+        proof,
+    })
+}
+
+/// The terms by which an equation under leading binders rewrites a formula.
+fn rule_terms(
+    alloc: Global,
+    back: bool,
+    a: &Formula,
+    subject: &Formula,
+) -> Result<Items<Boxed<Term>>, ActFault>
+    requires few { nodes_of (formula a.now) ≤ 4096 }
+    requires holes { IsTrue (is_tight_formula 0 (formula a.now)) }
+    requires tight { IsTrue (is_tight_formula 0 (formula subject.now)) }
+    ensures { Yields terms (rule_terms back (unbound [] (formula a.now)) (formula subject.now)) result }
+{
+    let form = without_binders(a, 0);
+    let Some(old) = old_side(back, form.rest) else {
+        return Err(ActFault::Stop(Cause::WrongShape));
+    };
+    match first_instance(alloc, old, form.count, subject) {
+        Ok(found) => fixed(alloc, a, &found),
+        Err(MatchFault::BarePattern) => Err(ActFault::Stop(Cause::BarePattern)),
+        Err(MatchFault::NoInstance) => Err(ActFault::Stop(Cause::NoInstance)),
+        Err(_) => Err(ActFault::OutOfMemory),
+    }
+}
+
+/// The side of an equation that is replaced.
+fn old_side<'a>(back: bool, a: &'a Formula) -> Option<&'a Term>
+    ensures { option_map lent_term result ≡ old_side back (formula a.now) }
+{
+    match a {
+        Formula::Eq(s, t) => Some(if back { t } else { s }),
+        _ => None,
+    }
+}
