@@ -1,11 +1,11 @@
 // The table: the act of each part of a move.
-ghost use Rattle.std.specs.Prelude.{◌≡◌, ◌<◌, ◌^◌, All, map, option_map};
+ghost use Rattle.std.specs.Prelude.{◌≡◌, ◌<◌, ◌^◌, All, Some, map, option_map};
 ghost use Rattle.pg_base.specs.Tokens.{word};
 ghost use Rattle.pg_logic.specs.Tree.{nodes_of};
 ghost use Rattle.pg_script.specs.Data.{entries_of};
 ghost use Rattle.pg_script.specs.View.{entry, expression, words};
 ghost use Rattle.pg_terms.specs.View.{formula};
-ghost use Rattle.pg_moves.specs.Acts.{Act, Revert, apply_act, have_act, move_named, plain_act, split_act, symm_act};
+ghost use Rattle.pg_moves.specs.Acts.{Act, Cases, Induction, Revert, apply_act, have_act, move_named, plain_act, split_act, symm_act};
 ghost use Rattle.pg_moves.specs.Measures.{formulas};
 ghost use Rattle.pg_moves.specs.First.{first_goal};
 ghost use Rattle.pg_moves.specs.Runs as runs;
@@ -89,16 +89,33 @@ impl Acts for Moves {
 }
 
 /// A move with nothing behind its word.
+#[tactic(auto, using(crate::proofs::Acts::unknown))]
 fn plain(alloc: Global, goal: &Goal, head: &str, lookup: &Lookup<'_>) -> Result<Reduction, ActFault>
     requires { IsReady (lookup_of lookup.now) (goal_of goal.now) }
     ensures { Does (lookup_of lookup.now) (goal_of goal.now) (plain_act (move_named head.now)) result }
 {
     match TacticName::named(head) {
-        Some(TacticName::Rfl) => rfl(alloc, goal, lookup),
-        Some(TacticName::Left) => left(alloc, goal, lookup),
-        Some(TacticName::Right) => right(alloc, goal, lookup),
-        Some(TacticName::Constructor) => constructor(alloc, goal, lookup),
-        Some(TacticName::Exfalso) => exfalso(alloc, goal, lookup),
+        Some(tactic) => plain_of(alloc, goal, tactic, lookup),
+        None => Err(ActFault::Stop(Cause::WrongShape)),
+    }
+}
+
+#[tactic(auto, using(crate::proofs::Acts::unknown))]
+fn plain_of(
+    alloc: Global,
+    goal: &Goal,
+    tactic: TacticName,
+    lookup: &Lookup<'_>,
+) -> Result<Reduction, ActFault>
+    requires { IsReady (lookup_of lookup.now) (goal_of goal.now) }
+    ensures { Does (lookup_of lookup.now) (goal_of goal.now) (plain_act (Some tactic)) result }
+{
+    match tactic {
+        TacticName::Rfl => rfl(alloc, goal, lookup),
+        TacticName::Left => left(alloc, goal, lookup),
+        TacticName::Right => right(alloc, goal, lookup),
+        TacticName::Constructor => constructor(alloc, goal, lookup),
+        TacticName::Exfalso => exfalso(alloc, goal, lookup),
         _ => Err(ActFault::Stop(Cause::WrongShape)),
     }
 }
@@ -123,7 +140,6 @@ fn applied(
 }
 
 /// `induction n with ..`, `cases n with ..`.
-#[tactic(auto, using(crate::proofs::Small::small_hyps, crate::proofs::Small::small_target, crate::proofs::Small::double_hyps, crate::proofs::Small::double_target))]
 fn split(
     alloc: Global,
     goal: &Goal,
@@ -138,9 +154,60 @@ fn split(
     ensures { Does (lookup_of lookup.now) (goal_of goal.now) (split_act (move_named head.now) (word name.now) (words names.now)) result }
 {
     match TacticName::named(head) {
-        Some(TacticName::Induction) => induction(alloc, goal, name, names, lookup),
-        _ => cases(alloc, goal, name, names, lookup),
+        Some(tactic) => split_of(alloc, goal, tactic, name, names, lookup),
+        None => cased(alloc, goal, name, names, lookup),
     }
+}
+
+fn split_of(
+    alloc: Global,
+    goal: &Goal,
+    tactic: TacticName,
+    name: &Token<'_>,
+    names: &[Token<'_>],
+    lookup: &Lookup<'_>,
+) -> Result<Reduction, ActFault>
+    requires ready { IsReady (lookup_of lookup.now) (goal_of goal.now) }
+    requires small { All (λ a. nodes_of a < 2 ^ 29) (formulas (goal_of goal.now)) }
+    requires names { AreNamed (words names.now) }
+    ensures { Does (lookup_of lookup.now) (goal_of goal.now) (split_act (Some tactic) (word name.now) (words names.now)) result }
+{
+    match tactic {
+        TacticName::Induction => inducted(alloc, goal, name, names, lookup),
+        _ => cased(alloc, goal, name, names, lookup),
+    }
+}
+
+#[tactic(auto, using(crate::proofs::Small::small_hyps, crate::proofs::Small::small_target, crate::proofs::Small::named))]
+fn inducted(
+    alloc: Global,
+    goal: &Goal,
+    name: &Token<'_>,
+    names: &[Token<'_>],
+    lookup: &Lookup<'_>,
+) -> Result<Reduction, ActFault>
+    requires ready { IsReady (lookup_of lookup.now) (goal_of goal.now) }
+    requires small { All (λ a. nodes_of a < 2 ^ 29) (formulas (goal_of goal.now)) }
+    requires names { AreNamed (words names.now) }
+    ensures { Does (lookup_of lookup.now) (goal_of goal.now) (Induction (word name.now) (words names.now)) result }
+{
+    induction(alloc, goal, name, names, lookup)
+}
+
+#[tactic(auto, using(crate::proofs::Small::double_hyps, crate::proofs::Small::double_target, crate::proofs::Small::named))]
+fn cased(
+    alloc: Global,
+    goal: &Goal,
+    name: &Token<'_>,
+    names: &[Token<'_>],
+    lookup: &Lookup<'_>,
+) -> Result<Reduction, ActFault>
+    requires ready { IsReady (lookup_of lookup.now) (goal_of goal.now) }
+    requires small { All (λ a. nodes_of a < 2 ^ 29) (formulas (goal_of goal.now)) }
+    requires names { AreNamed (words names.now) }
+    ensures { Does (lookup_of lookup.now) (goal_of goal.now) (Cases (word name.now) (words names.now)) result }
+{
+    cases(alloc, goal, name, names, lookup)
 }
 
 /// `revert x`.
@@ -176,6 +243,7 @@ fn swapped(
 }
 
 /// `have h : A`, `have h := e`, `have h : A := e`.
+#[tactic(auto, using(crate::proofs::Acts::unknown))]
 fn had(
     alloc: Global,
     goal: &Goal,
@@ -187,8 +255,8 @@ fn had(
     requires ready { IsReady (lookup_of lookup.now) (goal_of goal.now) }
     requires counted { IsCounted (lookup_of lookup.now) (goal_of goal.now) }
     requires name { IsNamed (word name.now) }
-    requires formula { Maybe HasTexts (option_map lent formula.entry) }
-    requires texts { Maybe HaveTexts (option_map lent_expression expr.entry) }
+    requires formula { Maybe HasTexts (option_map lent formula) }
+    requires texts { Maybe HaveTexts (option_map lent_expression expr) }
     ensures { Does (lookup_of lookup.now) (goal_of goal.now) (have_act (word name.now) (option_map lent formula.entry) (option_map lent_expression expr.entry)) result }
 {
     match expr {
