@@ -137,7 +137,7 @@ module _ (d : ℕ) where
   within-ex (t ∷ ts) x a = ap (opening t) (within-ex ts x a)
 
 -- a binder further out
-within-outer : (d : ℕ) (ts : List Tm) (k : ℕ) → within d ts (bound (d + length ts + k)) ≡ bound (d + k)
+pub within-outer : (d : ℕ) (ts : List Tm) (k : ℕ) → within d ts (bound (d + length ts + k)) ≡ bound (d + k)
 within-outer d [] k = let e : d + 0 + k ≡ d + k = omega arith in ap bound e
 within-outer d (t ∷ ts) k =
     let e : d + suc (length ts) + k ≡ d + length ts + (k + 1) = omega arith in

@@ -7,3 +7,4 @@ pub mod Lists
 pub mod Fixing
 pub mod Exchanged
 pub mod Firsts
+pub mod Counted

@@ -13,23 +13,9 @@ use sqlite_items::{Boxed, Items};
 use std::alloc::{AllocError, Global};
 
 /// The values of the holes that make the subject of the pattern, if there are some. A hole is a loose
-/// bound variable of the pattern, of which each is below `holes`; the subject has none. A value holds no
-/// bound variable. It fails only for want of memory.
+/// bound variable of the pattern, of which each is below `holes`. No value holds a bound variable, also
+/// where the subject does. It fails only for want of memory.
 pub fn match_term(
-    alloc: Global,
-    pattern: &Term,
-    holes: u32,
-    subject: &Term,
-) -> Result<Option<Found>, AllocError>
-    requires holes { IsTrue (is_tight holes (term pattern.now)) }
-    requires tight { IsTrue (is_tight 0 (term subject.now)) }
-    ensures { IfOk result (λ o. option_map found_values o ≡ term_instance (term pattern.now) holes (term subject.now)) }
-{
-    instance(alloc, pattern, holes, subject)
-}
-
-/// The same of a subject that may hold bound variables.
-pub fn instance(
     alloc: Global,
     pattern: &Term,
     holes: u32,
@@ -42,16 +28,14 @@ pub fn instance(
     found_term(alloc, &mut values, pattern, subject)
 }
 
-/// The same of formulas, up to the names of binders. No value holds a variable that is bound in the
-/// subject.
+/// The same of formulas, up to the names of binders.
 pub fn match_formula(
     alloc: Global,
     pattern: &Formula,
     holes: u32,
     subject: &Formula,
 ) -> Result<Option<Found>, AllocError>
-    requires holes { IsTrue (is_tight_formula holes (formula pattern.now)) }
-    requires tight { IsTrue (is_tight_formula 0 (formula subject.now)) }
+    requires { IsTrue (is_tight_formula holes (formula pattern.now)) }
     ensures { IfOk result (λ o. option_map found_values o ≡ formula_instance (formula pattern.now) holes (formula subject.now)) }
 {
     let mut values = no_values(alloc, holes)?;

@@ -1,5 +1,5 @@
 // Every occurrence of a term exchanged for another.
-ghost use Rattle.std.specs.Prelude.{◌≡◌, ◌<◌, ◌-◌, ◌^◌, min, ℕ, IfOk};
+ghost use Rattle.std.specs.Prelude.{◌≡◌, ◌<◌, ◌-◌, ◌^◌, min, IfOk};
 ghost use Rattle.pg_logic.specs.Tree.{Tm, eq, nodes, nodes_all, nodes_of};
 ghost use Rattle.pg_terms.specs.View.{term, args, formula};
 ghost use Rattle.pg_moves.specs.Replaced.{replaced as new_term, replaced_all, replaced_formula};
@@ -25,16 +25,16 @@ pub fn replaced(
     requires { limit < 2 ^ 64 - 1 }
     ensures { Replaces (formula within.now) (term old.now) (term new.now) limit result }
 {
-    let size = formula_size(within, old, new.size());
+    let size = replaced_size(within, old, new.size());
     if size > limit {
         return Err(MatchFault::TooLarge { size });
     }
     Ok(changed(alloc, within, old, new)?)
 }
 
-/// The size in nodes of the formula with a new term of so many nodes for the old one. A size past the
+/// The nodes of the formula that `replaced` makes with a new term of so many nodes. A number past the
 /// type's end is given as that end, here and below. Takes no memory.
-fn formula_size(a: &Formula, old: &Term, by: u64) -> u64
+pub fn replaced_size(a: &Formula, old: &Term, by: u64) -> u64
     ensures { (n : Tm) → by ≡ min (nodes n) (2 ^ 64 - 1) → result ≡ min (nodes_of (replaced_formula (term old.now) n (formula a.now))) (2 ^ 64 - 1) }
 {
     match a {
@@ -42,12 +42,12 @@ fn formula_size(a: &Formula, old: &Term, by: u64) -> u64
         Formula::Eq(s, t) => equation_size(s, t, old, by),
         Formula::Pred(_, ts) => all_size(ts.as_slice(), old, by).saturating_add(1),
         Formula::And(a, b) | Formula::Or(a, b) | Formula::Imp(a, b) => {
-            formula_size(a.get(), old, by)
-                .saturating_add(formula_size(b.get(), old, by))
+            replaced_size(a.get(), old, by)
+                .saturating_add(replaced_size(b.get(), old, by))
                 .saturating_add(1)
         }
         Formula::All(_, a) | Formula::Ex(_, a) => {
-            formula_size(a.get(), old, by).saturating_add(1)
+            replaced_size(a.get(), old, by).saturating_add(1)
         }
     }
 }
@@ -88,8 +88,13 @@ fn all_size(ts: &[Term], old: &Term, by: u64) -> u64
     sum
 }
 
-/// The formula with the new term for the old one.
-fn changed(alloc: Global, a: &Formula, old: &Term, new: &Term) -> Result<Boxed<Formula>, AllocError>
+/// The formula so changed, however large it is: `replaced_size` counts it before. It fails only for want of memory.
+pub fn changed(
+    alloc: Global,
+    a: &Formula,
+    old: &Term,
+    new: &Term,
+) -> Result<Boxed<Formula>, AllocError>
     ensures { IfOk result (λ r. formula r ≡ replaced_formula (term old.now) (term new.now) (formula a.now)) }
 {
     match a {

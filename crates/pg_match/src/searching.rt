@@ -1,6 +1,6 @@
 // The first instance of a pattern within a formula.
 ghost use Rattle.std.specs.Prelude.{◌≡◌, ◌++◌, IfOk, IsTrue, option_map};
-ghost use Rattle.pg_logic.specs.Tree.{is_tight, is_tight_formula};
+ghost use Rattle.pg_logic.specs.Tree.{is_tight};
 ghost use Rattle.pg_terms.specs.View.{term, args, formula};
 ghost use Rattle.pg_moves.specs.Instances.{term_instance, subterms, subterms_in, subterms_of, first_found};
 ghost use Rattle.pg_match.specs.View.{found_values};
@@ -9,13 +9,13 @@ ghost use Rattle.pg_match.specs.Answers.{Finds};
 
 use crate::fault::MatchFault;
 use crate::found::Found;
-use crate::matching::instance;
+use crate::matching::match_term;
 use pg_terms::{Formula, Term};
 use std::alloc::{AllocError, Global};
 
 /// The values of the holes for the first instance of a pattern within a formula: of its subterms that are
 /// instances, the one of least preorder place. A hole is a loose bound variable of the pattern, of which
-/// each is below `holes`; the formula has none.
+/// each is below `holes`.
 ///
 /// A pattern that is a hole alone is `BarePattern`. Else, where no subterm is an instance, it is
 /// `NoInstance`. Want of memory is `OutOfMemory`.
@@ -25,8 +25,7 @@ pub fn first_instance(
     holes: u32,
     within: &Formula,
 ) -> Result<Found, MatchFault>
-    requires holes { IsTrue (is_tight holes (term pattern.now)) }
-    requires tight { IsTrue (is_tight_formula 0 (formula within.now)) }
+    requires { IsTrue (is_tight holes (term pattern.now)) }
     ensures { Finds (term pattern.now) holes (formula within.now) result }
 {
     if is_bare(pattern) {
@@ -109,7 +108,7 @@ fn in_term(alloc: Global, t: &Term, pattern: &Term, holes: u32) -> Result<Option
     requires { IsTrue (is_tight holes (term pattern.now)) }
     ensures { IfOk result (λ o. option_map found_values o ≡ first_found (term_instance (term pattern.now) holes) (subterms (term t.now))) }
 {
-    if let Some(found) = instance(alloc, pattern, holes, t)? {
+    if let Some(found) = match_term(alloc, pattern, holes, t)? {
         return Ok(Some(found));
     }
     match t {
