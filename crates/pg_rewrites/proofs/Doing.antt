@@ -1,9 +1,9 @@
 -- From what is given, and the terms of an instance, to what the acts do.
 use Rattle.std.proofs.Common.{◌≡◌, ℕ, ◌+◌, List, [], ◌∷◌, ◌++◌, length, map, Bool, true, false, Some, None, refl, arith, ap, sym, ◌∙◌, subst}
-use Rattle.std.specs.Prelude.{Result, Ok, Err}
+use Rattle.std.specs.Prelude.{Option, Result, Ok, Err, option_map, ◌≤◌}
 use Rattle.std.proofs.lemmas.Bool.{and_parts, and_from}
 use Rattle.pg_base.specs.Tokens.{Word}
-use Rattle.pg_logic.specs.Tree.{Tm, free, bound, nought, succ, app, Fm, falsum, eq, pred, and, or, imp, all, ex, same_formula, opened_formula}
+use Rattle.pg_logic.specs.Tree.{Tm, free, bound, nought, succ, app, Fm, falsum, eq, pred, and, or, imp, all, ex, same_formula, opened_formula, nodes_of}
 use Rattle.pg_logic.specs.Signature.{Signature, fits, fits_term}
 use Rattle.pg_logic.specs.Declarations.{signature_of}
 use Rattle.pg_logic.specs.Kernel.{Pf, hyp, impe, repl}
@@ -41,16 +41,22 @@ use Rattle.pg_frames.specs.View.{frames_of}
 use Rattle.pg_reduction.specs.declared.cause.ActFault.{ActFault}
 use Rattle.pg_reduction.specs.declared.cause.ActFault.TheVariants.{Stop, OutOfMemory}
 use Rattle.pg_reduction.specs.declared.reduction.Reduction.{Reduction}
-use Rattle.pg_reduction.specs.Doing.{IsReady, Reduces, Does, DoesWithin, StopsWithin, Has, Yields}
+use Rattle.pg_reduction.specs.Doing.{IsReady, Reduces, DoesWithin, StopsWithin, Has, Yields}
+use Rattle.pg_reduction.specs.Limits.{Tells}
 use Rattle.pg_reduction.specs.View.{cause_of}
+use Rattle.pg_reduction.specs.declared.cause.Cause as rust
+use Rattle.pg_moves.specs.Measures.{first_over, formula_measures, goal_measures}
 use Rattle.pg_reduction.proofs.Does as does
-use Rattle.pg_rewrites.specs.Applying.{Fit, steps_of, fitted, fit, stages, asking, forward_terms, detached, detached_at, forwarded}
-use Rattle.pg_rewrites.specs.Exchanging.{MakesWithin, cutting}
-use Rattle.pg_rewrites.specs.Rewriting.{Equation, instance_terms, rule_terms, equated, equated_at, equation, rewritten_in, new_is_old, old_is_new, rewriting as rewriting_frames, reworded}
+use Rattle.pg_rewrites.specs.Applying.{Applies, Asks, Fit, steps_of, fitted, fit, stages, antecedents, asking, forward_terms, detached, detached_at, forwarded}
+use Rattle.pg_rewrites.specs.Measuring.{Forms, IsFirst, IsLarge, IsSmall}
+use Rattle.pg_rewrites.specs.declared.measuring.Refusal.{Refusal}
+use Rattle.pg_rewrites.specs.declared.measuring.Refusal.TheVariants.{Large, Fault}
+use Rattle.pg_rewrites.specs.Rewriting.{Equation, cutting, exchanged_at, large_nodes, instance_terms, rule_terms, equated, equated_at, equation, rewritten_in, new_is_old, old_is_new, rewriting as rewriting_frames, reworded}
 use Rattle.pg_rewrites.specs.Taking.{Claim, taken_at}
-use Rattle.pg_rewrites.proofs.Staged.{finding, staged}
+use Rattle.pg_rewrites.proofs.Staged.{finding, staged, asked-filled}
 use Rattle.pg_rewrites.proofs.Taken.{taken-proved, taken-filled}
-use Rattle.pg_rewrites.proofs.Values.{first-fixes}
+use Rattle.pg_rewrites.proofs.Values.{first-fixes, fit-tight}
+use Rattle.pg_rewrites.proofs.Limits.{limit-target, limit-hypothesis, count-large, count-small, limit-small}
 
 -- ---- results
 
@@ -65,6 +71,16 @@ ok-err x c e = absurd (cc)
 asked-goals : (g : Goal) (ts : List Tm) (hs : List Antecedent) → map (λ a. aimed a g) (map (antecedent_at ts) hs) ≡ map (λ h. aimed (antecedent_at ts h) g) hs
 asked-goals g ts [] = refl
 asked-goals g ts (h ∷ hs) = ap (λ l. aimed (antecedent_at ts h) g ∷ l) (asked-goals g ts hs)
+
+no-binder : (z y : Sides) → no_binder z ≡ Ok y → z ≡ y
+no-binder z y e = go z.old e
+  where
+    go : (t : Tm) → not_bare t z ≡ Ok y → z ≡ y
+    go (bound i) e = absurd (cc)
+    go (free i) e = cc
+    go nought e = cc
+    go (succ t) e = cc
+    go (app f ts) e = cc
 
 module _ (l : Lookup) (g : Goal) (ready : IsReady l g) where
   ok : Sound l
@@ -91,11 +107,6 @@ module _ (l : Lookup) (g : Goal) (ready : IsReady l g) where
   done : (act : Act) (new : List Goal) (fs : List Frame) → new_goals l g act ≡ Ok new → J new fs → (r : Reduction) → Has new fs r → Reduces l g act r
   done act new fs is j r h = record { goals = is ∙ ap Ok (sym h.0); justified = subst (λ new. J new (frames_of r.frames)) (sym h.0) (subst (J new) (sym h.1) j) }
 
-  within : (act : Act) (new : List Goal) (fs : List Frame) → new_goals l g act ≡ Ok new → J new fs → (r : Result Reduction ActFault) → MakesWithin new fs r → DoesWithin l g act r
-  within act new fs is j (Ok r) m = done act new fs is j r m
-  within act new fs is j (Err (Stop c)) m = subst (λ w. StopsWithin w c) (sym is) m
-  within act new fs is j (Err OutOfMemory) m = tt
-
   -- ---- `apply e`
 
   few-are : (cs : List Fm) → FewVars (n + 1) (map (λ a. at n hs a) cs)
@@ -114,10 +125,10 @@ module _ (l : Lookup) (g : Goal) (ready : IsReady l g) where
   targets-are [] = refl
   targets-are (a ∷ cs) = ap (λ l. at n hs a ∷ l) (targets-are cs)
 
-  abbrev Applies : Expression → Fm → Pf → Fit → Type 0
-  Applies e a p f = (new_goals l g (Apply e) ≡ Ok (asking g (stages f.steps f.terms a))) × J (asking g (stages f.steps f.terms a)) (applied (stages f.steps f.terms a) p ∷ [])
+  abbrev Takes : Expression → Fm → Pf → Fit → Type 0
+  Takes e a p f = (new_goals l g (Apply e) ≡ Ok (asking g (stages f.steps f.terms a))) × J (asking g (stages f.steps f.terms a)) (applied (stages f.steps f.terms a) p ∷ [])
 
-  applies : (e : Expression) (a : Fm) (p : Pf) → given l g e ≡ Ok a → IsProved l g a p → (f : Fit) → fit a g.target ≡ Ok f → Applies e a p f
+  applies : (e : Expression) (a : Fm) (p : Pf) → given l g e ≡ Ok a → IsProved l g a p → (f : Fit) → fit a g.target ≡ Ok f → Takes e a p f
   unfolding new_goals
   applies e a p is known f made =
       let y = then-ok (wanted (fewest a g.target) NoInstance) fitted f made in
@@ -140,7 +151,7 @@ module _ (l : Lookup) (g : Goal) (ready : IsReady l g) where
         few = subst (FewVars (n + 1)) (targets-are (asked st)) (few-are (asked st));
       } in
       let q : record { terms = ts; steps = steps_of m.form } ≡ f = cc in
-      subst (Applies e a p) q (
+      subst (Takes e a p) q (
         ap (λ x. and_then x (λ a. and_then (wanted (fewest a g.target) NoInstance) (rewriting.applied g))) is
             ∙ ap (λ x. and_then x (rewriting.applied g)) y.1
             ∙ ap (λ x. and_then x (λ ts. Ok (map (λ h. aimed (antecedent_at ts h) g) m.form.antecedents))) z.1
@@ -148,9 +159,25 @@ module _ (l : Lookup) (g : Goal) (ready : IsReady l g) where
         does.by-good l g ready (asking g st) (applied st p ∷ []) good,
       )
 
-  pub does-apply : (e : Expression) (a : Fm) (p : Pf) → given l g e ≡ Ok a → IsProved l g a p → (f : Fit) → fit a g.target ≡ Ok f → (r : Reduction) →
-      Has (asking g (stages f.steps f.terms a)) (applied (stages f.steps f.terms a) p ∷ []) r → Does l g (Apply e) (Ok r)
-  does-apply e a p is known f made r h = let w = applies e a p is known f made in done (Apply e) _ _ w.0 w.1 r h
+  -- what is asked for is known before it is made
+  pub asks : (e : Expression) (a : Fm) (p : Pf) → given l g e ≡ Ok a → IsProved l g a p → (f : Fit) → fit a g.target ≡ Ok f → Asks f a
+  asks e a p is known f made =
+      let y = then-ok (wanted (fewest a g.target) NoInstance) fitted f made in
+      let m = y.0 in
+      let z = then-ok (fixed m.form.binders m.values) (λ ts. Ok (record { terms = ts; steps = steps_of m.form })) f y.2 in
+      let k = finding g.target [] [] a m (wanted-ok (fewest a g.target) NoInstance m y.1) in
+      let i = instance-is s n m.form.rest (length m.form.binders) g.target m.values fit-goal.1 k.values in
+      let c = fixed-ok s.functions n m.form.binders m.values z.0 (sym i.1) i.0 z.1 in
+      let q : record { terms = z.0; steps = steps_of m.form } ≡ f = cc in
+      record {
+        tight = fit-tight a g.target f made;
+        asked = subst (λ (f : Fit). asked (stages f.steps f.terms a) ≡ antecedents f.steps [] f.terms a) q (asked-filled s.functions n (steps_of m.form) [] z.0 a tt c.0);
+      }
+
+  pub does-apply : (e : Expression) (a : Fm) (p : Pf) → given l g e ≡ Ok a → IsProved l g a p → (f : Fit) → fit a g.target ≡ Ok f → (r : Result Reduction ActFault) → Applies g f a p r → DoesWithin l g (Apply e) r
+  does-apply e a p is known f made (Ok r) h = let w = applies e a p is known f made in done (Apply e) _ _ w.0 w.1 r h
+  does-apply e a p is known f made (Err (Stop c)) h = let w = applies e a p is known f made in subst (λ w. StopsWithin w c) (sym w.0) h
+  does-apply e a p is known f made (Err OutOfMemory) h = tt
 
   -- ---- `apply e at h`
 
@@ -208,7 +235,7 @@ module _ (l : Lookup) (g : Goal) (ready : IsReady l g) where
       ∙ ap (λ y. and_then y (λ a. and_then (forward (unbound [] a) (unbound [] a).rest f.hyp.formula) (λ b. Ok (changed_to g f b ∷ [])))) is
 
   pub does-apply_at : (e : Expression) (x : Word) (f : Found) → hypothesis g x.text ≡ Some f → (a : Fm) (p : Pf) → given l g e ≡ Ok a → IsProved l g a p → (c : Claim) → forwarded f a p ≡ Ok c → (r : Reduction) →
-      Has (changed_to g f c.says ∷ []) (cut c.says c.by ∷ []) r → Does l g (ApplyAt e x) (Ok r)
+      Has (changed_to g f c.says ∷ []) (cut c.says c.by ∷ []) r → DoesWithin l g (ApplyAt e x) (Ok r)
   does-apply_at e x f there a p is known c made r h =
       let y = then-ok (forward_terms (form a) (form a).rest f.hyp.formula) (detached_at f a p) c made in
       let w = forwards-to x f there a p known y.0 (form a).rest refl y.1 in
@@ -216,6 +243,14 @@ module _ (l : Lookup) (g : Goal) (ready : IsReady l g) where
       done (ApplyAt e x) (changed_to g f c.says ∷ []) (cut c.says c.by ∷ [])
       (forward-goals e x f there a is ∙ ap (λ y. and_then y (λ b. Ok (changed_to g f b ∷ []))) w.says ∙ ap (λ (c : Claim). Ok (changed_to g f c.says ∷ [])) q)
       (does.by-good l g ready (changed_to g f c.says ∷ []) (cut c.says c.by ∷ []) (subst (λ (c : Claim). Good l (sequent g) (map sequent (changed_to g f c.says ∷ [])) (cut c.says c.by ∷ [])) q w.good)) r h
+
+  pub large-forward : (e : Expression) (x : Word) (f : Found) → hypothesis g x.text ≡ Some f → (a : Fm) → given l g e ≡ Ok a → (lim first : rust.Cause) → IsLarge (forward (form a) (form a).rest f.hyp.formula) lim →
+      IsFirst (first_over (goal_measures (aimed falsum (changed_to g f falsum)))) lim first → DoesWithin l g (ApplyAt e x) (Err (Stop first))
+  large-forward e x f there a is lim first large at-first = go (forward (form a) (form a).rest f.hyp.formula) refl large
+    where
+      go : (t : Tried Fm) → forward (form a) (form a).rest f.hyp.formula ≡ t → IsLarge t lim → DoesWithin l g (ApplyAt e x) (Err (Stop first))
+      go (Ok b) q large = subst (λ w. StopsWithin w first) (sym (forward-goals e x f there a is ∙ ap (λ y. and_then y (λ b. Ok (changed_to g f b ∷ []))) q)) (limit-hypothesis g f b lim first large at-first)
+      go (Err d) q large = absurd large
 
   forward-err : (st : Stripped) (rest subject : Fm) (c : Cause) → forward_terms st rest subject ≡ Err c → forward st rest subject ≡ Err c
   forward-err st (imp u v) subject c e =
@@ -238,16 +273,6 @@ module _ (l : Lookup) (g : Goal) (ready : IsReady l g) where
       go (Err d) e q = let w : d ≡ c = cc in forward-err (form a) (form a).rest f.hyp.formula c (e ∙ ap Err w)
 
   -- ---- `rw [r]`, `rw [r] at h`
-
-  no-binder : (z y : Sides) → no_binder z ≡ Ok y → z ≡ y
-  no-binder z y e = go z.old e
-    where
-      go : (t : Tm) → not_bare t z ≡ Ok y → z ≡ y
-      go (bound i) e = absurd (cc)
-      go (free i) e = cc
-      go nought e = cc
-      go (succ t) e = cc
-      go (app f ts) e = cc
 
   -- the sides of the equation with its holes filled
   equated-filled : (back : Bool) (ts : List Tm) (c : Fm) (by : Pf) (z : Sides) → sides back c ≡ Ok z → equated back (filled_formula ts c) by ≡ Ok (record { old = filled ts z.old; new = filled ts z.new; by = by })
@@ -362,13 +387,24 @@ module _ (l : Lookup) (g : Goal) (ready : IsReady l g) where
       (put_back_formula s n q.old q.old c fit-goal.1 ∙ unchanged_formula q.old c)))
       (fit-goal.0, fits-replaced s n q.old q.new c k.fits_new fit-goal.1)
 
-  pub does-rewrite : (r : Rule) (a : Fm) (p : Pf) → given l g r.expr ≡ Ok a → IsProved l g a p → (q : Equation) → equation r.back a p g.target ≡ Ok q → (made : Result Reduction ActFault) →
-      MakesWithin (aimed (rewritten_in g.target q) g ∷ []) (rewriting_frames r.back g.target q) made → DoesWithin l g (Rewrite r) made
+  -- the formula that is made is small
+  pub small-rewrite : (back : Bool) (a : Fm) (p : Pf) → IsProved l g a p → (subject : Fm) → fits s n 0 subject ≡ true → (q : Equation) → equation back a p subject ≡ Ok q → IsSmall (rewritten_by back (form a) subject) → nodes_of (rewritten_in subject q) ≤ 4096
+  small-rewrite back a p known subject fs q e small = subst IsSmall (equation-ok back a p known subject fs q e).0 small
+
+  pub does-rewrite : (r : Rule) (a : Fm) (p : Pf) → given l g r.expr ≡ Ok a → IsProved l g a p → (q : Equation) → equation r.back a p g.target ≡ Ok q → (made : Reduction) →
+      Has (aimed (rewritten_in g.target q) g ∷ []) (rewriting_frames r.back g.target q) made → DoesWithin l g (Rewrite r) (Ok made)
   does-rewrite r a p is known q e made m =
       let w = equation-ok r.back a p known g.target fit-goal.1 q e in
       let new = aimed (rewritten_in g.target q) g ∷ [] in
-      within (Rewrite r) new (rewriting_frames r.back g.target q) (rewrite-goals r a is ∙ ap (λ y. and_then y (λ a. Ok (aimed a g ∷ []))) w.0)
+      done (Rewrite r) new (rewriting_frames r.back g.target q) (rewrite-goals r a is ∙ ap (λ y. and_then y (λ a. Ok (aimed a g ∷ []))) w.0)
       (does.by-good l g ready new (rewriting_frames r.back g.target q) (good-rewrite r.back q w.1)) made m
+
+  pub large-rewrite : (r : Rule) (a : Fm) → given l g r.expr ≡ Ok a → (lim first : rust.Cause) → IsLarge (rewritten_by r.back (form a) g.target) lim → IsFirst (first_over (goal_measures (aimed falsum g))) lim first → DoesWithin l g (Rewrite r) (Err (Stop first))
+  large-rewrite r a is lim first large at-first = go (rewritten_by r.back (form a) g.target) refl large
+    where
+      go : (t : Tried Fm) → rewritten_by r.back (form a) g.target ≡ t → IsLarge t lim → DoesWithin l g (Rewrite r) (Err (Stop first))
+      go (Ok b) q large = subst (λ w. StopsWithin w first) (sym (rewrite-goals r a is ∙ ap (λ y. and_then y (λ a. Ok (aimed a g ∷ []))) q)) (limit-target g b lim first large at-first)
+      go (Err d) q large = absurd large
 
   pub stopped-rewrite : (r : Rule) (a : Fm) (p : Pf) → given l g r.expr ≡ Ok a → IsProved l g a p → (c : Cause) → equation r.back a p g.target ≡ Err c → new_goals l g (Rewrite r) ≡ Err c
   stopped-rewrite r a p is known c e = rewrite-goals r a is ∙ ap (λ y. and_then y (λ a. Ok (aimed a g ∷ []))) (equation-err r.back a p known g.target fit-goal.1 c e)
@@ -398,16 +434,82 @@ module _ (l : Lookup) (g : Goal) (ready : IsReady l g) where
       changed l ok g fit-goal f (rewritten_in a q) (changed_to g f (rewritten_in a q) ∷ []) d refl (fits-replaced s n q.old q.new a k.fits_new fa) made
 
   pub does-rewrite_at : (r : Rule) (x : Word) (f : Found) → hypothesis g x.text ≡ Some f → (a : Fm) (p : Pf) → given l g r.expr ≡ Ok a → IsProved l g a p → (q : Equation) → equation r.back a p f.hyp.formula ≡ Ok q →
-      (made : Result Reduction ActFault) → MakesWithin (changed_to g f (rewritten_in f.hyp.formula q) ∷ []) (cutting (reworded r.back f q)) made → DoesWithin l g (RewriteAt r x) made
+      (made : Reduction) → Has (changed_to g f (rewritten_in f.hyp.formula q) ∷ []) (cutting (reworded r.back f q)) made → DoesWithin l g (RewriteAt r x) (Ok made)
   does-rewrite_at r x f there a p is known q e made m =
       let w = equation-ok r.back a p known f.hyp.formula (found-fits x f there) q e in
       let new = changed_to g f (rewritten_in f.hyp.formula q) ∷ [] in
-      within (RewriteAt r x) new (cutting (reworded r.back f q)) (rewrite_at-goals r x f there a is ∙ ap (λ y. and_then y (λ a. Ok (changed_to g f a ∷ []))) w.0)
+      done (RewriteAt r x) new (cutting (reworded r.back f q)) (rewrite_at-goals r x f there a is ∙ ap (λ y. and_then y (λ a. Ok (changed_to g f a ∷ []))) w.0)
       (does.by-good l g ready new (cutting (reworded r.back f q)) (good-rewrite_at x f there r.back q w.1)) made m
+
+  pub large-rewrite_at : (r : Rule) (x : Word) (f : Found) → hypothesis g x.text ≡ Some f → (a : Fm) → given l g r.expr ≡ Ok a → (lim first : rust.Cause) → IsLarge (rewritten_by r.back (form a) f.hyp.formula) lim →
+      IsFirst (first_over (goal_measures (aimed falsum (changed_to g f falsum)))) lim first → DoesWithin l g (RewriteAt r x) (Err (Stop first))
+  large-rewrite_at r x f there a is lim first large at-first = go (rewritten_by r.back (form a) f.hyp.formula) refl large
+    where
+      go : (t : Tried Fm) → rewritten_by r.back (form a) f.hyp.formula ≡ t → IsLarge t lim → DoesWithin l g (RewriteAt r x) (Err (Stop first))
+      go (Ok b) q large = subst (λ w. StopsWithin w first) (sym (rewrite_at-goals r x f there a is ∙ ap (λ y. and_then y (λ a. Ok (changed_to g f a ∷ []))) q)) (limit-hypothesis g f b lim first large at-first)
+      go (Err d) q large = absurd large
 
   pub stopped-rewrite_at : (r : Rule) (x : Word) (f : Found) → hypothesis g x.text ≡ Some f → (a : Fm) (p : Pf) → given l g r.expr ≡ Ok a → IsProved l g a p → (c : Cause) → equation r.back a p f.hyp.formula ≡ Err c → new_goals l g (RewriteAt r x) ≡ Err c
   stopped-rewrite_at r x f there a p is known c e =
       rewrite_at-goals r x f there a is ∙ ap (λ y. and_then y (λ a. Ok (changed_to g f a ∷ []))) (equation-err r.back a p known f.hyp.formula (found-fits x f there) c e)
+
+-- ---- sizes
+
+-- the formula that comes of the terms
+pub rewritten-is : (back : Bool) (st : Stripped) (subject : Fm) (ts : List Tm) → rule_terms back st subject ≡ Ok ts → (z : Sides) × (sides back st.rest ≡ Ok z) × (rewritten_by back st subject ≡ Ok (exchanged_at ts subject z))
+rewritten-is back st subject ts e =
+    let x = then-ok (sides back st.rest) (λ z. and_then (no_binder z) (instance_terms st subject)) ts e in
+    let y = then-ok (no_binder x.0) (instance_terms st subject) ts x.2 in
+    let z = y.0 in
+    let v = then-ok (wanted (first_instance z.old (length st.binders) subject) NoInstance) (fixed st.binders) ts y.2 in
+    let q = no-binder x.0 z y.1 in (
+      z,
+      x.1 ∙ ap Ok q,
+      ap (λ y. and_then y (λ z. and_then (no_binder z) (exchanged st subject))) x.1
+          ∙ ap (λ y. and_then y (exchanged st subject)) y.1
+          ∙ ap (λ y. and_then y (λ vs. and_then (fixed st.binders vs) (λ ts. Ok (replaced_formula (filled ts z.old) (filled ts z.new) subject)))) v.1
+          ∙ ap (λ y. and_then y (λ ts. Ok (replaced_formula (filled ts z.old) (filled ts z.new) subject))) v.2,
+    )
+
+pub large-rule : (back : Bool) (st : Stripped) (subject : Fm) (ts : List Tm) → rule_terms back st subject ≡ Ok ts → (o : Option rust.Cause) (lim : rust.Cause) → o ≡ Some lim →
+    ((z : Sides) → sides back st.rest ≡ Ok z → Tells (large_nodes (exchanged_at ts subject z)) o) → IsLarge (rewritten_by back st subject) lim
+large-rule back st subject ts e o lim is t = let w = rewritten-is back st subject ts e in subst (λ t. IsLarge t lim) (sym w.2) (count-large (exchanged_at ts subject w.0) o lim is (t w.0 w.1))
+
+pub small-rule : (back : Bool) (st : Stripped) (subject : Fm) (ts : List Tm) → rule_terms back st subject ≡ Ok ts → (o : Option rust.Cause) → o ≡ None →
+    ((z : Sides) → sides back st.rest ≡ Ok z → Tells (large_nodes (exchanged_at ts subject z)) o) → IsSmall (rewritten_by back st subject)
+small-rule back st subject ts e o is t = let w = rewritten-is back st subject ts e in subst IsSmall (sym w.2) (count-small (exchanged_at ts subject w.0) o is (t w.0 w.1))
+
+forward-is : (st : Stripped) (rest subject : Fm) (ts : List Tm) → forward_terms st rest subject ≡ Ok ts → (u : Fm) × (v : Fm) × (rest ≡ imp u v) × (forward st rest subject ≡ Ok (filled_formula ts v))
+forward-is st (imp u v) subject ts e =
+    let y = then-ok (wanted (formula_instance u (length st.binders) subject) NoInstance) (fixed st.binders) ts e in
+    (u, v, refl, ap (λ x. and_then x (λ vs. and_then (fixed st.binders vs) (λ ts. Ok (filled_formula ts v)))) y.1 ∙ ap (λ x. and_then x (λ ts. Ok (filled_formula ts v))) y.2)
+forward-is st falsum subject ts e = absurd (cc)
+forward-is st (eq t u) subject ts e = absurd (cc)
+forward-is st (pred p us) subject ts e = absurd (cc)
+forward-is st (and u v) subject ts e = absurd (cc)
+forward-is st (or u v) subject ts e = absurd (cc)
+forward-is st (all x u) subject ts e = absurd (cc)
+forward-is st (ex x u) subject ts e = absurd (cc)
+
+pub large-right : (st : Stripped) (subject : Fm) (ts : List Tm) → forward_terms st st.rest subject ≡ Ok ts → (o : Option rust.Cause) (lim : rust.Cause) → o ≡ Some lim →
+    ((u v : Fm) → st.rest ≡ imp u v → Tells (first_over (formula_measures (filled_formula ts v))) o) → IsLarge (forward st st.rest subject) lim
+large-right st subject ts e o lim is t =
+    let w = forward-is st st.rest subject ts e in
+    subst (λ t. IsLarge t lim) (sym w.3) (ap (option_map cause_of) (sym is) ∙ t w.0 w.1 w.2)
+
+pub small-right : (st : Stripped) (subject : Fm) (ts : List Tm) → forward_terms st st.rest subject ≡ Ok ts → (o : Option rust.Cause) → o ≡ None →
+    ((u v : Fm) → st.rest ≡ imp u v → Tells (first_over (formula_measures (filled_formula ts v))) o) → IsSmall (forward st st.rest subject)
+small-right st subject ts e o is t =
+    let w = forward-is st st.rest subject ts e in
+    subst IsSmall (sym w.3) (limit-small (filled_formula ts w.1) o is (t w.0 w.1 w.2))
+
+-- ---- what is proved at the terms
+
+pub forwards : (f : Found) (a : Fm) (p : Pf) (ts : List Tm) (taken c : Claim) → forward_terms (unbound [] a) (unbound [] a).rest f.hyp.formula ≡ Ok ts → taken ≡ taken_at ts a p → detached f taken.says taken.by ≡ Ok c → forwarded f a p ≡ Ok c
+forwards f a p ts taken c e is d = ap (λ y. and_then y (detached_at f a p)) e ∙ ap (λ (c : Claim). detached f c.says c.by) (sym is) ∙ d
+
+pub equates : (back : Bool) (a : Fm) (p : Pf) (subject : Fm) (ts : List Tm) (taken : Claim) (t : Tried Equation) → rule_terms back (unbound [] a) subject ≡ Ok ts → taken ≡ taken_at ts a p → equated back taken.says taken.by ≡ t → equation back a p subject ≡ t
+equates back a p subject ts taken t e is d = ap (λ y. and_then y (equated_at back a p)) e ∙ ap (λ (c : Claim). equated back c.says c.by) (sym is) ∙ d
 
 -- ---- stops
 
@@ -450,10 +552,21 @@ ungiven-rewrite_at l g r x f there c is =
     ap (λ o. and_then (wanted o (NoSuchName x.at)) (λ f. and_then (rewritten l g r f.hyp.formula) (λ a. Ok (changed_to g f a ∷ [])))) there
     ∙ ap (λ y. and_then (and_then y (λ a. rewritten_by r.back (unbound [] a) f.hyp.formula)) (λ a. Ok (changed_to g f a ∷ []))) is
 
+-- a refusal, by its form
+pub forms-large : {X Y : Type 0} (view : X → Y) (want : Tried Y) (made : Tried Fm) (x : Refusal) (c : rust.Cause) → x ≡ Large c → Forms view want made (Err x) → IsLarge made c
+forms-large view want made x c e f = subst (λ x. Forms view want made (Err x)) e f
+
+pub forms-fault : {X Y : Type 0} (view : X → Y) (want : Tried Y) (made : Tried Fm) (x : Refusal) (e : ActFault) → x ≡ Fault e → Forms view want made (Err x) → Yields view want (Err e)
+forms-fault view want made x e is f = go e (subst (λ x. Forms view want made (Err x)) is f)
+  where
+    go : (e : ActFault) → Forms view want made (Err (Fault e)) → Yields view want (Err e)
+    go (Stop c) f = f
+    go OutOfMemory f = f
+
 -- what is handed on
 pub handed-within : {X Y : Type 0} (l : Lookup) (g : Goal) (act : Act) (view : X → Y) (want : Tried Y) → ((c : Cause) → want ≡ Err c → new_goals l g act ≡ Err c) → (e : ActFault) → Yields view want (Err e) → DoesWithin l g act (Err e)
 handed-within l g act view want go (Stop c) y = subst (λ w. StopsWithin w c) (sym (go (cause_of c) y)) refl
 handed-within l g act view want go OutOfMemory y = tt
 
-pub stops-within : (l : Lookup) (g : Goal) (act : Act) (c : Rattle.pg_reduction.specs.declared.cause.Cause.Cause) → new_goals l g act ≡ Err (cause_of c) → DoesWithin l g act (Err (Stop c))
+pub stops-within : (l : Lookup) (g : Goal) (act : Act) (c : rust.Cause) → new_goals l g act ≡ Err (cause_of c) → DoesWithin l g act (Err (Stop c))
 stops-within l g act c is = subst (λ w. StopsWithin w c) (sym is) refl

@@ -1,3 +1,4 @@
+pub mod Antecedents
 pub mod Depths
 pub mod Doing
 pub mod Found

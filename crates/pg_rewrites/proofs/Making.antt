@@ -22,7 +22,7 @@ formula-all x a = ap formula (sym (rolls-All x a)) ∙ fold-roll-Formula Fm form
 pub formula-imp : (a b : Formula) → formula (Imp a b) ≡ imp (formula a) (formula b)
 formula-imp a b = ap formula (sym (rolls-Imp a b)) ∙ fold-roll-Formula Fm formula_step (Formula-F.Imp a b)
 
-plain-stages : (k : ℕ) (ts : List Tm) (a : Fm) → strips a ≡ false → stages k ts a ≡ []
+pub plain-stages : (k : ℕ) (ts : List Tm) (a : Fm) → strips a ≡ false → stages k ts a ≡ []
 plain-stages zero ts a e = refl
 plain-stages (suc k) ts falsum e = refl
 plain-stages (suc k) ts (eq t u) e = refl
@@ -44,7 +44,7 @@ next [] used t e = absurd (cc)
 next (u ∷ by) zero t e = let q : t ≡ u = cc in ap (λ t. term t ∷ terms by) (sym q)
 next (u ∷ by) (suc k) t e = let s : suc k + 1 ≡ suc (k + 1) = omega arith in next by k t e ∙ ap (λ i. term t ∷ terms (drop i (u ∷ by))) (sym s)
 
-no-term : (k : ℕ) (x : List ℕ) (a : Fm) → stages k [] (all x a) ≡ []
+pub no-term : (k : ℕ) (x : List ℕ) (a : Fm) → stages k [] (all x a) ≡ []
 no-term zero x a = refl
 no-term (suc k) x a = refl
 

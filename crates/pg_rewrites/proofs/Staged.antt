@@ -1,8 +1,8 @@
 -- The stages of `apply`: what they take off, and what they ask for.
-use Rattle.std.proofs.Common.{◌≡◌, ℕ, zero, suc, ◌+◌, ◌≤◌, ◌⊎◌, List, [], ◌∷◌, ◌++◌, length, map, take, true, Option, Some, None, refl, arith, ap, sym, ◌∙◌, subst, length-append, append_assoc, ⊎_elim, inl, inr}
+use Rattle.std.proofs.Common.{◌≡◌, ℕ, zero, suc, ◌+◌, ◌≤◌, ◌⊎◌, List, [], ◌∷◌, ◌++◌, length, map, take, true, false, Option, Some, None, refl, arith, ap, sym, ◌∙◌, subst, length-append, append_assoc, ⊎_elim, inl, inr}
 use Rattle.std.proofs.lemmas.Bool.{and_parts}
 use Rattle.pg_logic.specs.Tree.{Tm, Fm, falsum, eq, pred, and, or, imp, all, ex, same_formula, opened_formula}
-use Rattle.pg_logic.specs.Signature.{Signature, fits}
+use Rattle.pg_logic.specs.Signature.{Function, Signature, fits}
 use Rattle.pg_logic.specs.Declarations.{Name}
 use Rattle.pg_logic.proofs.Fitting.{fits-opened}
 use Rattle.pg_moves.specs.Frames.{Stage, asked}
@@ -13,7 +13,9 @@ use Rattle.pg_moves.proofs.ByRecursion.{AllFit}
 use Rattle.pg_moves.proofs.Filled.{AreClosed, filled_under, filled-all, filled-imp, filled-next, filled-append}
 use Rattle.pg_moves.proofs.Moved.{append_nil, TakesOff}
 use Rattle.pg_moves.proofs.Rewritten.{closed-append}
-use Rattle.pg_rewrites.specs.Applying.{steps_of, stages}
+use Rattle.pg_rewrites.specs.Applying.{steps_of, stages, antecedents}
+use Rattle.pg_rewrites.specs.Searching.{strips}
+use Rattle.pg_rewrites.proofs.Making.{plain-stages}
 use Rattle.pg_rewrites.specs.Taking.{binder_names}
 
 -- what is found says how the formula was stripped
@@ -201,3 +203,43 @@ module _ (s : Signature) (th : List Fm) (Q : ℕ → Type 0) (n : ℕ) (target :
 
     pub staged : (a : Fm) → C vs → fits s n 0 a ≡ true → Found_in (strippings [] [] a) → Staged vs a [] m (stages (steps_of m.form) vs a)
     staged a cv f there = walk (steps_of m.form) a [] vs [] [] refl tt cv refl f (omega arith) there
+
+-- ---- what is asked for, read off the formula with its holes
+
+strips-opened : (t : Tm) (a : Fm) → strips (opened_formula t a) ≡ strips a
+strips-opened t falsum = refl
+strips-opened t (eq u v) = refl
+strips-opened t (pred p us) = refl
+strips-opened t (and a b) = refl
+strips-opened t (or a b) = refl
+strips-opened t (imp a b) = refl
+strips-opened t (all x a) = refl
+strips-opened t (ex x a) = refl
+
+strips-filled : (ts : List Tm) (a : Fm) → strips (filled_formula ts a) ≡ strips a
+strips-filled [] a = refl
+strips-filled (t ∷ ts) a = strips-opened t (filled_formula ts a) ∙ strips-filled ts a
+
+module _ (fs : List Function) (n : ℕ) where
+  abbrev Asked : ℕ → (before after : List Tm) → Fm → Type 0
+  Asked k before after a = asked (stages k after (filled_formula before a)) ≡ antecedents k before after a
+
+  asked-plain : (k : ℕ) (before after : List Tm) (a : Fm) → strips a ≡ false → antecedents k before after a ≡ [] → Asked k before after a
+  asked-plain k before after a e none = ap asked (plain-stages k after (filled_formula before a) (strips-filled before a ∙ e)) ∙ sym none
+
+  pub asked-filled : (k : ℕ) (before after : List Tm) (a : Fm) → AreClosed fs n before → AreClosed fs n after → Asked k before after a
+  asked-filled zero before after a cb ca = refl
+  asked-filled (suc k) before after (imp a b) cb ca =
+      ap (λ c. asked (stages (suc k) after c)) (filled-imp fs n before a b) ∙ ap (λ l. filled_formula before a ∷ l) (asked-filled k before after b cb ca)
+  asked-filled (suc k) before [] (all x a) cb ca = ap (λ c. asked (stages (suc k) [] c)) (filled-all fs n before x a)
+  asked-filled (suc k) before (t ∷ after) (all x a) cb ca =
+      let b = filled_under fs n before a in
+      let next : opened_formula t b ≡ filled_formula (before ++ t ∷ []) a = filled-next fs n before t a cb ca.0 ∙ sym (filled-append fs n before (t ∷ []) a) in
+      ap (λ c. asked (stages (suc k) (t ∷ after) c)) (filled-all fs n before x a) ∙ ap (λ c. asked (stages k after c)) next
+      ∙ asked-filled k (before ++ t ∷ []) after a (closed-append fs n before t cb ca.0) ca.1
+  asked-filled (suc k) before after falsum cb ca = asked-plain (suc k) before after falsum refl refl
+  asked-filled (suc k) before after (eq u v) cb ca = asked-plain (suc k) before after (eq u v) refl refl
+  asked-filled (suc k) before after (pred p us) cb ca = asked-plain (suc k) before after (pred p us) refl refl
+  asked-filled (suc k) before after (and a b) cb ca = asked-plain (suc k) before after (and a b) refl refl
+  asked-filled (suc k) before after (or a b) cb ca = asked-plain (suc k) before after (or a b) refl refl
+  asked-filled (suc k) before after (ex x a) cb ca = asked-plain (suc k) before after (ex x a) refl refl

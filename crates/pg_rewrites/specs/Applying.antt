@@ -1,13 +1,17 @@
 -- `apply e`, `apply e at h`: the terms for the binders that are stripped, and the frames.
-use Rattle.std.specs.Prelude.{ℕ, suc, ◌+◌, List, [], ◌∷◌, map, length, Ok, Err}
+use Rattle.std.specs.Prelude.{◌≡◌, ℕ, suc, ◌+◌, List, [], ◌∷◌, ◌++◌, map, length, Result, Ok, Err}
 use Rattle.pg_logic.specs.Tree.{Tm, Fm, imp, all, opened_formula}
 use Rattle.pg_logic.specs.Kernel.{Pf, hyp, impe}
 use Rattle.pg_moves.specs.Assuming.{Found}
 use Rattle.pg_moves.specs.Causes.{Tried, WrongShape, NoInstance, and_then, wanted}
-use Rattle.pg_moves.specs.Frames.{Stage, for_all, where_so, asked}
+use Rattle.pg_moves.specs.Frames.{Stage, for_all, where_so, asked, applied}
 use Rattle.pg_moves.specs.Goals.{Goal, aimed}
-use Rattle.pg_moves.specs.Instances.{formula_instance}
+use Rattle.pg_moves.specs.Instances.{AreTight, filled_formula, formula_instance}
 use Rattle.pg_moves.specs.Stripped.{Stripped, Matched, fewest, fixed, unbound}
+use Rattle.pg_reduction.specs.declared.cause.ActFault.{ActFault}
+use Rattle.pg_reduction.specs.declared.cause.ActFault.TheVariants.{Stop, OutOfMemory}
+use Rattle.pg_reduction.specs.declared.reduction.Reduction.{Reduction}
+use Rattle.pg_reduction.specs.Doing.{Has, StopsWithin}
 use Rattle.pg_rewrites.specs.Taking.{Claim, taken_at}
 
 -- ---- `apply e`
@@ -35,9 +39,27 @@ stages (suc k) ts (imp a b) = where_so a ∷ stages k ts b
 stages (suc k) (t ∷ ts) (all x a) = for_all a t ∷ stages k ts (opened_formula t a)
 stages k ts a = []
 
+-- The antecedents among so many that are taken off, each with the terms of the binders before it: these for the binders
+-- that are taken off before, and those for the next ones.
+abbrev pub antecedents : ℕ → (before after : List Tm) → Fm → List Fm
+antecedents (suc k) before after (imp a b) = filled_formula before a ∷ antecedents k before after b
+antecedents (suc k) before (t ∷ after) (all x a) = antecedents k (before ++ t ∷ []) after a
+antecedents k before after a = []
+
+-- No term holds a bound variable, and what is taken off asks for the antecedents at the terms.
+pub record Asks (f : Fit) (a : Fm) : Type 0 where
+  pub tight : AreTight f.terms
+  pub asked : asked (stages f.steps f.terms a) ≡ antecedents f.steps [] f.terms a
+
 -- a goal for each antecedent
 abbrev pub asking : Goal → List Stage → List Goal
 asking g st = map (λ a. aimed a g) (asked st)
+
+-- the antecedents' goals with the frame, or the first limit that they pass
+abbrev pub Applies : Goal → Fit → Fm → Pf → Result Reduction ActFault → Type 0
+Applies g f a p (Ok r) = Has (asking g (stages f.steps f.terms a)) (applied (stages f.steps f.terms a) p ∷ []) r
+Applies g f a p (Err (Stop c)) = StopsWithin (Ok (asking g (stages f.steps f.terms a))) c
+Applies g f a p (Err OutOfMemory) = Unit {0}
 
 -- ---- `apply e at h`
 

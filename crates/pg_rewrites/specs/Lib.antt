@@ -1,6 +1,6 @@
 pub mod Applying
 pub mod Depth
-pub mod Exchanging
+pub mod Measuring
 pub mod Rewriting
 pub mod Searching
 pub mod Staging

@@ -1,11 +1,12 @@
 -- `rw [r]`, `rw [r] at h`: the equation at the terms of the instance, and the frames.
-use Rattle.std.specs.Prelude.{Bool, List, [], ◌∷◌, length, Ok, if◌then◌else◌}
-use Rattle.pg_logic.specs.Tree.{Tm, Fm}
+use Rattle.std.specs.Prelude.{Bool, List, [], ◌∷◌, length, Option, Ok, if◌then◌else◌}
+use Rattle.pg_logic.specs.Tree.{Tm, Fm, nodes_of}
 use Rattle.pg_logic.specs.Kernel.{Pf, hyp, repl}
 use Rattle.pg_moves.specs.Assuming.{Found}
-use Rattle.pg_moves.specs.Causes.{Tried, NoInstance, and_then, wanted}
-use Rattle.pg_moves.specs.Frames.{Frame, rewrite, flipped}
-use Rattle.pg_moves.specs.Instances.{first_instance}
+use Rattle.pg_moves.specs.Causes.{Cause, Tried, Nodes, NoInstance, TooLarge, and_then, wanted}
+use Rattle.pg_moves.specs.Frames.{Frame, rewrite, cut, flipped}
+use Rattle.pg_moves.specs.Instances.{filled, first_instance}
+use Rattle.pg_moves.specs.Measures.{over}
 use Rattle.pg_moves.specs.Replaced.{replaced_formula, abstracted_formula}
 use Rattle.pg_moves.specs.Rewriting.{Sides, sides, no_binder}
 use Rattle.pg_moves.specs.Stripped.{Stripped, fixed, unbound}
@@ -41,6 +42,14 @@ equation back a p subject = and_then (rule_terms back (unbound [] a) subject) (e
 abbrev pub rewritten_in : Fm → Equation → Fm
 rewritten_in subject e = replaced_formula e.old e.new subject
 
+-- the formula with the sides of the equation at these terms exchanged
+abbrev pub exchanged_at : List Tm → Fm → Sides → Fm
+exchanged_at ts subject z = replaced_formula (filled ts z.old) (filled ts z.new) subject
+
+-- the limit of nodes, where a formula passes it
+abbrev pub large_nodes : Fm → Option Cause
+large_nodes a = over 4096 (nodes_of a) (TooLarge Nodes (nodes_of a))
+
 -- a proof that the new term is the old one, and that the old one is the new one
 abbrev pub new_is_old : Bool → Equation → Pf
 new_is_old back e = if back then e.by else flipped e.old e.new e.by
@@ -57,3 +66,7 @@ rewriting back subject e = rewrite (abstracted_formula e.old 0 subject) e.new e.
 abbrev pub reworded : Bool → Found → Equation → Claim
 reworded back f e =
     record { says = rewritten_in f.hyp.formula e; by = repl (abstracted_formula e.old 0 f.hyp.formula) e.old e.new (old_is_new back e) (hyp f.number) }
+
+-- the frame by which a hypothesis says what is proved
+abbrev pub cutting : Claim → List Frame
+cutting c = cut c.says c.by ∷ []

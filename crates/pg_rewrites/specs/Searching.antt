@@ -42,6 +42,11 @@ abbrev pub left_side : Fm → Option Fm
 left_side (imp a b) = Some a
 left_side a = None
 
+-- the right side of an implication
+abbrev pub right_side : Fm → Option Fm
+right_side (imp a b) = Some b
+right_side a = None
+
 -- the side of an equation that is replaced
 abbrev pub old_side : Bool → Fm → Option Tm
 old_side back (eq s t) = Some (if back then t else s)

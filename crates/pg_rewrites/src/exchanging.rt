@@ -1,35 +1,31 @@
 // `rw [r]`, `rw [r] at h`.
-ghost use Rattle.std.specs.Prelude.{◌≡◌, ◌<◌, ◌^◌, ◌∷◌, [], IfOk};
+ghost use Rattle.std.specs.Prelude.{◌≡◌, ◌≤◌, ◌<◌, ◌^◌, ◌∷◌, [], IfOk};
 ghost use Rattle.pg_base.specs.Tokens.{word};
 ghost use Rattle.pg_goal.specs.Conditions.{IsCounted, AreTexts};
 ghost use Rattle.pg_goal.specs.View.{goal_of, lookup_of};
-ghost use Rattle.pg_logic.specs.Tree.{falsum};
+ghost use Rattle.pg_logic.specs.Tree.{nodes_of};
 ghost use Rattle.pg_moves.specs.Acts as act;
 ghost use Rattle.pg_moves.specs.Assuming as moves;
 ghost use Rattle.pg_moves.specs.Goals.{aimed};
-ghost use Rattle.pg_moves.specs.Measures.{first_over, goal_measures};
 ghost use Rattle.pg_script.specs.View as script;
 ghost use Rattle.pg_terms.specs.View.{formula};
 ghost use Rattle.pg_reduction.specs.Doing.{IsReady, DoesWithin, Has};
 ghost use Rattle.pg_reduction.specs.Named.{found_of};
 ghost use Rattle.pg_rewrites.specs.Depth.{binder_depth};
-ghost use Rattle.pg_rewrites.specs.Exchanging.{IsFirstLimit, MakesWithin, cutting};
-ghost use Rattle.pg_rewrites.specs.Rewriting.{rewriting, reworded, rewritten_in};
+ghost use Rattle.pg_rewrites.specs.Rewriting.{cutting, rewriting, reworded, rewritten_in};
 ghost use Rattle.pg_rewrites.specs.View.{claim, equation_of};
 
 use crate::abstracting::abstracted_formula;
 use crate::applying::reworded;
 use crate::flipping::flipped;
+use crate::measuring::{Refusal, hypothesis_limit, target_limit};
 use crate::rewriting::{Equation, rule_equation};
 use pg_base::Token;
 use pg_frames::Frame;
 use pg_goal::{Given, Goal, Lookup};
 use pg_kernel::Proof;
-use pg_match::{MatchFault, replaced};
-use pg_reduction::{
-    ActFault, Cause, Found, Measure, Reduction, changed_to, first_large_goal, given_there,
-    hypothesis_of, one,
-};
+use pg_match::changed;
+use pg_reduction::{ActFault, Cause, Found, Reduction, given_there, hypothesis_of, one};
 use pg_script::RwRule;
 use pg_terms::Formula;
 use sqlite_items::{Boxed, Items};
@@ -55,25 +51,21 @@ pub fn rewrite(
 {
     match given_there(alloc, goal, &rule.expr, lookup) {
         Ok(given) => match rule_equation(alloc, rule.back, given, goal.target.get()) {
-            Ok(e) => exchanged(alloc, goal, rule.back, e),
-            Err(fault) => Err(fault),
+            Ok(e) => Ok(exchanged(alloc, goal, rule.back, e)?),
+            Err(Refusal::Large(limit)) => { Err(ActFault::Stop(target_limit(alloc, goal, limit)?)) }
+            Err(Refusal::Fault(fault)) => Err(fault),
         },
         Err(fault) => Err(fault),
     }
 }
 
-/// The target rewritten by an equation.
-fn exchanged(alloc: Global, goal: &Goal, back: bool, e: Equation) -> Result<Reduction, ActFault>
-    ensures { MakesWithin (aimed (rewritten_in (formula goal.now.target) (equation_of e)) (goal_of goal.now) ∷ []) (rewriting back (formula goal.now.target) (equation_of e)) result }
+/// The target rewritten by an equation. It is known to be small before it is made.
+fn exchanged(alloc: Global, goal: &Goal, back: bool, e: Equation) -> Result<Reduction, AllocError>
+    requires { nodes_of (rewritten_in (formula goal.now.target) (equation_of e)) ≤ 4096 }
+    ensures { IfOk result (Has (aimed (rewritten_in (formula goal.now.target) (equation_of e)) (goal_of goal.now) ∷ []) (rewriting back (formula goal.now.target) (equation_of e))) }
 {
-    match replaced(alloc, goal.target.get(), e.old.get(), e.new.get(), 4096) {
-        Ok(a) => Ok(aimed(alloc, goal, back, e, a)?),
-        Err(MatchFault::TooLarge { size }) => {
-            let small = goal.aimed(alloc, falsum(alloc)?)?;
-            Err(ActFault::Stop(first_limit(&small, size)))
-        }
-        Err(_) => Err(ActFault::OutOfMemory),
-    }
+    let a = changed(alloc, goal.target.get(), e.old.get(), e.new.get())?;
+    aimed(alloc, goal, back, e, a)
 }
 
 /// The goal with the rewritten target.
@@ -122,8 +114,11 @@ pub fn rewrite_at(
     match hypothesis_of(goal, name.text) {
         Some(f) => match given_there(alloc, goal, &rule.expr, lookup) {
             Ok(given) => match rule_equation(alloc, rule.back, given, f.hyp.formula.get()) {
-                Ok(e) => exchanged_at(alloc, goal, &f, rule.back, e),
-                Err(fault) => Err(fault),
+                Ok(e) => Ok(exchanged_at(alloc, goal, &f, rule.back, e)?),
+                Err(Refusal::Large(limit)) => {
+                    Err(ActFault::Stop(hypothesis_limit(alloc, goal, &f, limit)?))
+                }
+                Err(Refusal::Fault(fault)) => Err(fault),
             },
             Err(fault) => Err(fault),
         },
@@ -131,28 +126,20 @@ pub fn rewrite_at(
     }
 }
 
-/// The hypothesis rewritten by an equation.
+/// The hypothesis rewritten by an equation. It is known to be small before it is made.
 fn exchanged_at(
     alloc: Global,
     goal: &Goal,
     f: &Found<'_>,
     back: bool,
     e: Equation,
-) -> Result<Reduction, ActFault>
-    ensures { MakesWithin (moves.changed_to (goal_of goal.now) (found_of f.now) (rewritten_in (formula f.now.hyp.now.formula) (equation_of e)) ∷ []) (cutting (reworded back (found_of f.now) (equation_of e))) result }
+) -> Result<Reduction, AllocError>
+    requires { nodes_of (rewritten_in (formula f.now.hyp.now.formula) (equation_of e)) ≤ 4096 }
+    ensures { IfOk result (Has (moves.changed_to (goal_of goal.now) (found_of f.now) (rewritten_in (formula f.now.hyp.now.formula) (equation_of e)) ∷ []) (cutting (reworded back (found_of f.now) (equation_of e)))) }
 {
-    match replaced(alloc, f.hyp.formula.get(), e.old.get(), e.new.get(), 4096) {
-        Ok(a) => {
-            let next = said(alloc, f, back, e, a)?;
-            Ok(reworded(alloc, goal, f, next)?)
-        }
-        Err(MatchFault::TooLarge { size }) => {
-            let changed = changed_to(alloc, goal, f, falsum(alloc)?)?;
-            let small = changed.aimed(alloc, falsum(alloc)?)?;
-            Err(ActFault::Stop(first_limit(&small, size)))
-        }
-        Err(_) => Err(ActFault::OutOfMemory),
-    }
+    let a = changed(alloc, f.hyp.formula.get(), e.old.get(), e.new.get())?;
+    let next = said(alloc, f, back, e, a)?;
+    reworded(alloc, goal, f, next)
 }
 
 /// The rewritten hypothesis, with its proof.
@@ -186,25 +173,4 @@ fn said(
         ),
     )?;
     Ok(Given { formula: a, proof })
-}
-
-/// The first limit that is passed, where a formula of so many nodes, over 4,096, stands behind what is
-/// measured of the goal.
-fn first_limit(small: &Goal, size: u64) -> Cause
-    ensures { IsFirstLimit (first_over (goal_measures (goal_of small.now))) size result }
-{
-    match first_large_goal(small) {
-        Some(cause) => cause,
-        None => Cause::TooLarge {
-            measure: Measure::Nodes,
-            reached: size,
-        },
-    }
-}
-
-/// A false formula.
-fn falsum(alloc: Global) -> Result<Boxed<Formula>, AllocError>
-    ensures { IfOk result (λ r. formula r ≡ falsum) }
-{
-    Boxed::new(alloc, Formula::Falsum)
 }

@@ -5,6 +5,7 @@ mod abstracting;
 mod applying;
 mod exchanging;
 mod flipping;
+mod measuring;
 mod rewriting;
 mod staging;
 mod stripping;

@@ -1,24 +1,29 @@
 // The equation by which a formula is rewritten.
-ghost use Rattle.std.specs.Prelude.{◌≡◌, ◌≤◌, ◌<◌, ◌^◌, [], IsTrue, length, option_map};
+ghost use Rattle.std.specs.Prelude.{◌≡◌, ◌≤◌, [], IfOk, IsTrue, option_map};
 ghost use Rattle.pg_kernel.specs.View.{proof};
 ghost use Rattle.pg_logic.specs.Tree.{nodes_of, is_tight_formula};
+ghost use Rattle.pg_moves.specs.Instances.{AreTight, filled};
+ghost use Rattle.pg_moves.specs.Rewriting.{Sides, sides, rewritten_by};
 ghost use Rattle.pg_moves.specs.Stripped.{unbound};
-ghost use Rattle.pg_terms.specs.View.{terms, formula};
+ghost use Rattle.pg_terms.specs.View.{term, terms, formula};
 ghost use Rattle.pg_reduction.specs.Doing.{Yields};
-ghost use Rattle.pg_rewrites.specs.Rewriting.{equated, equation, rule_terms};
+ghost use Rattle.pg_reduction.specs.Limits.{Tells};
+ghost use Rattle.pg_rewrites.specs.Measuring.{Forms};
+ghost use Rattle.pg_rewrites.specs.Rewriting.{equated, equation, exchanged_at, large_nodes, rule_terms};
 ghost use Rattle.pg_rewrites.specs.Searching.{lent_term, old_side};
 ghost use Rattle.pg_rewrites.specs.View.{equation_of};
 
+use crate::measuring::{Refusal, large_nodes};
 use crate::stripping::without_binders;
 use crate::taking::taken_at;
 use crate::unfixed::fixed;
 use pg_goal::Given;
 use pg_kernel::Proof;
-use pg_match::{MatchFault, first_instance};
+use pg_match::{MatchFault, first_instance, replaced_size, sizes, term_instance_size};
 use pg_reduction::{ActFault, Cause};
 use pg_terms::{Formula, Term};
 use sqlite_items::{Boxed, Items};
-use std::alloc::Global;
+use std::alloc::{AllocError, Global};
 
 /// The term that is replaced, the one that stands for it, and a proof of the equation as it was given.
 #[derive(Drop)]
@@ -32,24 +37,87 @@ pub struct Equation {
 /// or its right side backwards.
 ///
 /// It stops by `WrongShape` where an equation is not what stands behind the leading binders, then by
-/// `BarePattern`, then by `NoInstance`, then by `Undetermined`.
+/// `BarePattern`, then by `NoInstance`, then by `Undetermined`. Where the formula would have more than
+/// 4,096 nodes, the other side isn't made.
 pub fn rule_equation(
     alloc: Global,
     back: bool,
     given: Given,
     subject: &Formula,
-) -> Result<Equation, ActFault>
+) -> Result<Equation, Refusal>
     requires few { nodes_of (formula given.formula) ≤ 4096 }
     requires holes { IsTrue (is_tight_formula 0 (formula given.formula)) }
-    requires tight { IsTrue (is_tight_formula 0 (formula subject.now)) }
-    ensures { Yields equation_of (equation back (formula given.formula) (proof given.proof) (formula subject.now)) result }
+    ensures { Forms equation_of (equation back (formula given.formula) (proof given.proof) (formula subject.now)) (rewritten_by back (unbound [] (formula given.formula)) (formula subject.now)) result }
 {
     let terms = match rule_terms(alloc, back, given.formula.get(), subject) {
         Ok(terms) => terms,
-        Err(fault) => return Err(fault),
+        Err(fault) => return Err(Refusal::Fault(fault)),
     };
+    let by = terms.as_slice();
+    if let Some(limit) = large_rule(alloc, back, given.formula.get(), by, subject)? {
+        return Err(Refusal::Large(limit));
+    }
     let given = taken_at(alloc, given, terms.as_slice())?;
-    equated(alloc, back, given)
+    match equated(alloc, back, given) {
+        Ok(e) => Ok(e),
+        Err(fault) => Err(Refusal::Fault(fault)),
+    }
+}
+
+/// The limit of nodes that a formula passes where an equation under leading binders rewrites it, with
+/// these terms for the binders.
+fn large_rule(
+    alloc: Global,
+    back: bool,
+    a: &Formula,
+    by: &[Boxed<Term>],
+    subject: &Formula,
+) -> Result<Option<Cause>, AllocError>
+    requires few { nodes_of (formula a.now) ≤ 4096 }
+    requires tight { AreTight (terms by.now) }
+    ensures { IfOk result (λ o. (z : Sides) → sides back (unbound [] (formula a.now)).rest ≡ Ok z → Tells (large_nodes (exchanged_at (terms by.now) (formula subject.now) z)) o) }
+{
+    match without_binders(a, 0).rest {
+        Formula::Eq(s, t) => {
+            if back {
+                large_exchange(alloc, t, s, by, subject)
+            } else {
+                large_exchange(alloc, s, t, by, subject)
+            }
+        }
+        _ => Ok(None),
+    }
+}
+
+/// The limit of nodes that a formula passes where one side of an equation is exchanged for the other.
+/// The side that is replaced is as large as what it replaces; the other one is counted alone.
+fn large_exchange(
+    alloc: Global,
+    old: &Term,
+    new: &Term,
+    by: &[Boxed<Term>],
+    subject: &Formula,
+) -> Result<Option<Cause>, AllocError>
+    requires { AreTight (terms by.now) }
+    ensures { IfOk result (Tells (large_nodes (exchanged_at (terms by.now) (formula subject.now) (record { old = term old.now; new = term new.now })))) }
+{
+    let values = sizes(alloc, by)?;
+    let size = term_instance_size(new, values.as_slice());
+    let old = filled(alloc, old, by)?;
+    Ok(large_nodes(replaced_size(subject, old.get(), size.nodes)))
+}
+
+/// A pattern with these terms in its holes, the outermost binder's first.
+fn filled(alloc: Global, pattern: &Term, by: &[Boxed<Term>]) -> Result<Boxed<Term>, AllocError>
+    ensures { IfOk result (λ t. term t ≡ filled (terms by.now) (term pattern.now)) }
+{
+    match by {
+        [] => Boxed::new(alloc, pattern.copied(alloc)?),
+        [t, rest @ ..] => {
+            let inner = filled(alloc, pattern, rest)?;
+            Boxed::new(alloc, inner.get().opened(alloc, t.get())?)
+        }
+    }
 }
 
 /// The sides of what is given, an equation. Else it stops by `WrongShape`.
@@ -85,7 +153,6 @@ fn rule_terms(
 ) -> Result<Items<Boxed<Term>>, ActFault>
     requires few { nodes_of (formula a.now) ≤ 4096 }
     requires holes { IsTrue (is_tight_formula 0 (formula a.now)) }
-    requires tight { IsTrue (is_tight_formula 0 (formula subject.now)) }
     ensures { Yields terms (rule_terms back (unbound [] (formula a.now)) (formula subject.now)) result }
 {
     let form = without_binders(a, 0);

@@ -1,9 +1,11 @@
 // What is stripped of a formula, step by step, and the goals for it.
-ghost use Rattle.std.specs.Prelude.{◌≡◌, ◌+◌, ◌<◌, ◌^◌, ◌++◌, ◌∷◌, [], ℕ, false, suc, IfOk, map};
+ghost use Rattle.std.specs.Prelude.{◌≡◌, ◌+◌, ◌≤◌, ◌<◌, ◌^◌, All, ◌++◌, ◌∷◌, [], ℕ, false, suc, IfOk, map};
 ghost use Rattle.pg_frames.specs.View.{stage_of};
 ghost use Rattle.pg_goal.specs.View.{goal_of};
 ghost use Rattle.pg_logic.specs.Tree as tree;
+ghost use Rattle.pg_logic.specs.Tree.{nodes_of};
 ghost use Rattle.pg_moves.specs.Frames as frames;
+ghost use Rattle.pg_moves.specs.Frames.{asked};
 ghost use Rattle.pg_terms.specs.View.{term, terms, formula};
 ghost use Rattle.pg_rewrites.specs.Applying.{asking, stages};
 ghost use Rattle.pg_rewrites.specs.Searching.{strips};
@@ -24,13 +26,15 @@ struct Partial {
     used: usize,
 }
 
-/// So many binders and antecedents taken off a formula, where the binders take these terms.
+/// So many binders and antecedents taken off a formula, where the binders take these terms. It makes
+/// the antecedents, so these are to be small.
 pub fn stages(
     alloc: Global,
     a: Boxed<Formula>,
     by: &[Boxed<Term>],
     steps: u32,
 ) -> Result<Items<Stage>, AllocError>
+    requires { All (λ a. nodes_of a ≤ 4096) (asked (stages steps (terms by.now) (formula a))) }
     ensures { IfOk result (λ st. map stage_of st ≡ stages steps (terms by.now) (formula a)) }
 {
     let mut partial = Partial {

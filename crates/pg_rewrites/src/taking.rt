@@ -1,6 +1,5 @@
 // What is given, taken at terms.
 ghost use Rattle.std.specs.Prelude.{◌≡◌, IfOk};
-ghost use Rattle.pg_goal.specs.declared.expression.Given.{Given as Shown};
 ghost use Rattle.pg_kernel.specs.View.{proof};
 ghost use Rattle.pg_logic.specs.Kernel as logic;
 ghost use Rattle.pg_logic.specs.Tree as tree;

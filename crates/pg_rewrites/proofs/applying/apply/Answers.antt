@@ -10,10 +10,9 @@ use Rattle.pg_moves.specs.Closing.{given}
 use Rattle.pg_goal.specs.View.{goal_of, lookup_of}
 use Rattle.pg_reduction.specs.Doing.{Yields}
 use Rattle.pg_reduction.specs.Giving.{said}
-use Rattle.pg_reduction.proofs.Does.{handed}
 use Rattle.pg_rewrites.specs.Applying.{fit}
 use Rattle.pg_rewrites.specs.View.{fit_of}
-use Rattle.pg_rewrites.proofs.Doing.{does-apply, ungiven-apply, stopped-apply}
+use Rattle.pg_rewrites.proofs.Doing.{asks, does-apply, ungiven-apply, stopped-apply, handed-within}
 use Rattle.pg_rewrites.proofs.Given.{given-few}
 use Rattle.pg_rewrites.proofs.Values.{fits-tight}
 use Rattle.pg_rewrites.proofs.applying.apply.Goals as goal
@@ -28,20 +27,22 @@ fitting-requires-clause-holes c =
     let g = goal_of c.args.goal.now in
     subst (λ a. IsTrue (is_tight_formula 0 (formula a))) (sym c.get.ensures) (fits-tight (signature_of l.declared) (length g.vars) 0 (said c.in-Ok.given) c.in-Ok.ensures.proved.fitting)
 
-pub fitting-requires-clause-tight : goal.fitting-requires-clause-tight
-fitting-requires-clause-tight c =
-    let l = lookup_of c.args.lookup.now in
-    let g = goal_of c.args.goal.now in
-    subst (λ a. IsTrue (is_tight_formula 0 (formula a))) (sym c.get-in-Ok.ensures) (fits-tight (signature_of l.declared) (length g.vars) 0 g.target c.requires.ready.fits.1)
+pub applied-requires : goal.applied-requires
+applied-requires c =
+    let x = c.in-Ok.given in
+    let f = fit_of c.in-Ok-fitting.fit in
+    let e : fit (said x) (goal_of c.args.goal.now).target ≡ Ok f =
+    subst (λ b. fit (said x) (formula b) ≡ Ok f) c.get-in-Ok.ensures (subst (λ a. fit (formula a) (formula c.get-in-Ok.result.now) ≡ Ok f) c.get.ensures c.in-Ok-fitting.ensures) in
+    asks (lookup_of c.args.lookup.now) (goal_of c.args.goal.now) c.requires.ready (expression c.args.expr.now) (said x) (proof x.proof) c.in-Ok.ensures.yields c.in-Ok.ensures.proved f e
 
-pub returns-in_ok-applied-in-Ok-fitting : goal.returns-in_ok-applied-in-Ok-fitting
-returns-in_ok-applied-in-Ok-fitting c =
+pub returns-in-Ok-fitting : goal.returns-in-Ok-fitting
+returns-in-Ok-fitting c =
     let x = c.in-Ok.given in
     let f = fit_of c.in-Ok-fitting.fit in
     let e : fit (said x) (goal_of c.args.goal.now).target ≡ Ok f =
     subst (λ b. fit (said x) (formula b) ≡ Ok f) c.get-in-Ok.ensures (subst (λ a. fit (formula a) (formula c.get-in-Ok.result.now) ≡ Ok f) c.get.ensures c.in-Ok-fitting.ensures) in
     does-apply (lookup_of c.args.lookup.now) (goal_of c.args.goal.now) c.requires.ready (expression c.args.expr.now) (said x) (proof x.proof) c.in-Ok.ensures.yields c.in-Ok.ensures.proved f e
-    c.in_ok-applied-in-Ok-fitting.field-0 c.in_ok-applied-in-Ok-fitting.ensures
+    c.applied.result c.applied.ensures
 
 pub returns-in-Err-fitting : goal.returns-in-Err-fitting
 returns-in-Err-fitting c =
@@ -52,11 +53,11 @@ returns-in-Err-fitting c =
     let fault = c.in-Err-fitting.fault in
     let e : Yields fit_of (fit (said x) g.target) (Err fault) =
     subst (λ b. Yields fit_of (fit (said x) (formula b)) (Err fault)) c.get-in-Ok.ensures (subst (λ a. Yields fit_of (fit (formula a) (formula c.get-in-Ok.result.now)) (Err fault)) c.get.ensures c.in-Err-fitting.ensures) in
-    handed l g (Apply ex) fit_of (fit (said x) g.target) (stopped-apply l g ex (said x) c.in-Ok.ensures.yields) fault e
+    handed-within l g (Apply ex) fit_of (fit (said x) g.target) (stopped-apply l g ex (said x) c.in-Ok.ensures.yields) fault e
 
 pub returns-in-Err : goal.returns-in-Err
 returns-in-Err c =
     let l = lookup_of c.args.lookup.now in
     let g = goal_of c.args.goal.now in
     let ex = expression c.args.expr.now in
-    handed l g (Apply ex) said (given l g ex) (ungiven-apply l g ex) c.in-Err.fault c.in-Err.ensures.yields
+    handed-within l g (Apply ex) said (given l g ex) (ungiven-apply l g ex) c.in-Err.fault c.in-Err.ensures.yields

@@ -4,8 +4,8 @@ use Rattle.pg_rewrites.specs.Searching.{left_side}
 use Rattle.pg_rewrites.proofs.Found.{left-tight, left-firsts, forward-yields}
 use Rattle.pg_rewrites.proofs.applying.forward_terms.Goals as goal
 
-pub match_formula-requires-clause-holes : goal.match_formula-requires-clause-holes
-match_formula-requires-clause-holes c =
+pub match_formula-requires : goal.match_formula-requires
+match_formula-requires c =
     left-tight (formula c.args.a.now) (formula c.in-Some.left.now) c.without_binders-form.result.count (ap left_side (sym (c.without_binders-form.ensures.rest [])) ∙ sym c.in-Some.ensures) (c.without_binders-form.ensures.count [] refl) c.requires.holes
 
 pub fixed-requires-clause-few : goal.fixed-requires-clause-few

@@ -4,8 +4,8 @@ use Rattle.pg_rewrites.specs.Searching.{old_side}
 use Rattle.pg_rewrites.proofs.Found.{side-tight, side-firsts, rule-yields}
 use Rattle.pg_rewrites.proofs.rewriting.rule_terms.Goals as goal
 
-pub first_instance-requires-clause-holes : goal.first_instance-requires-clause-holes
-first_instance-requires-clause-holes c =
+pub first_instance-requires : goal.first_instance-requires
+first_instance-requires c =
     side-tight c.args.back (formula c.args.a.now) (term c.in-Some.old.now) c.without_binders-form.result.count (ap (old_side c.args.back) (sym (c.without_binders-form.ensures.rest [])) ∙ sym c.in-Some.ensures) (c.without_binders-form.ensures.count [] refl) c.requires.holes
 
 pub fixed-requires-clause-few : goal.fixed-requires-clause-few
