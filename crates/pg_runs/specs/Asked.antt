@@ -2,6 +2,8 @@
 use Rattle.std.specs.Prelude.{ℕ, ◌<◌, ◌+◌, ◌^◌, [], length, IsTrue}
 use Rattle.pg_logic.specs.Declarations.{signature_of}
 use Rattle.pg_logic.specs.Kernel.{Pf}
+use Rattle.pg_logic.specs.Sound.{IsTheorem}
+use Rattle.pg_logic.specs.Truth.{IsTrueOf}
 use Rattle.pg_terms.specs.View.{formula}
 use Rattle.pg_kernel.specs.Admission.{Accepts}
 use Rattle.pg_kernel.specs.Names.{is_named}
@@ -28,6 +30,12 @@ pub record CanRun (l : Lookup) (st : Statement) (es : Entries) : Type 0 where
 -- the statement's formula as a goal
 abbrev pub asked : Statement → Goal
 asked st = record { vars = []; hyps = []; target = closed st.binders.items (formula st.target) }
+
+-- where the theorems that a proof names are true of the natural numbers, the statement is
+abbrev pub IsTrueByTheorems : Lookup → Statement → Pf → Type 0
+IsTrueByTheorems l st p =
+    ((k : ℕ) → IsTrue (is_named k p) → IsTheorem (signature_of l.declared) l.theorems k)
+    → IsTrueOf (signature_of l.declared) [] (closed st.binders.items (formula st.target))
 
 -- the kernel accepts the proof of the statement's formula, and it names available theorems alone
 pub record IsProof (l : Lookup) (st : Statement) (p : Pf) : Type 0 where

@@ -21,7 +21,7 @@ use Rattle.pg_reduction.specs.View.{cause_of}
 use Rattle.pg_reduction.specs.declared.cause.Cause.{Cause}
 use Rattle.pg_reduction.specs.declared.cause.ActFault.{ActFault}
 use Rattle.pg_reduction.specs.declared.cause.ActFault.TheVariants as act
-use Rattle.pg_runs.specs.Asked.{IsProof}
+use Rattle.pg_runs.specs.Asked.{IsProof, IsTrueByTheorems}
 use Rattle.pg_runs.specs.State.{goals_of, Carries}
 use Rattle.pg_runs.specs.declared.state.State.{State}
 use Rattle.pg_runs.specs.declared.running.Halt.{Halt}
@@ -85,9 +85,9 @@ StopsSo (runs.Stopped want) s = IsStop want s
 StopsSo _ s = ⊥
 
 -- The run ends as defined. Where it is closed, the goal is the statement's formula, the kernel accepts the proof of it, and
--- the proof names available theorems alone. Only want of memory is free.
+-- the proof names available theorems alone; where these are true, the statement is. Only want of memory is free.
 abbrev pub Ends : {E : Type 0} → Lookup → Statement → runs.Outcome → Result Outcome E → Type 0
-Ends l st want (Ok (Closed c)) = (want ≡ runs.Closed) × (formula c.0 ≡ closed st.binders.items (formula st.target)) × IsProof l st (proof c.1)
+Ends l st want (Ok (Closed c)) = (want ≡ runs.Closed) × (formula c.0 ≡ closed st.binders.items (formula st.target)) × IsProof l st (proof c.1) × IsTrueByTheorems l st (proof c.1)
 Ends l st want (Ok (Unfinished gs)) = want ≡ runs.Open (goals_of gs)
 Ends l st want (Ok (Stopped s)) = StopsSo want s
 Ends l st want (Err e) = Unit {0}

@@ -3,6 +3,7 @@
 
 mod act;
 mod laws;
+mod moving;
 mod running;
 mod state;
 

@@ -15,7 +15,7 @@ ghost use Rattle.pg_moves.specs.First.{first_goal};
 ghost use Rattle.pg_moves.specs.Runs as runs;
 ghost use Rattle.pg_moves.specs.Runs.{run, outcome, run_items, run_item, run_parts, items_in, items_among, parts_in, parts_among, focused, branched, hinted};
 ghost use Rattle.pg_goal.specs.View.{goal_of, lookup_of};
-ghost use Rattle.pg_runs.specs.Asked.{CanRun, asked, IsProof};
+ghost use Rattle.pg_runs.specs.Asked.{CanRun, asked, IsProof, IsTrueByTheorems};
 ghost use Rattle.pg_runs.specs.State.{goals_of, IsUsable, HaveRoom, Leads};
 ghost use Rattle.pg_runs.specs.Running.{Runs, Ends};
 ghost use Rattle.pg_runs.specs.Written.{IsWritten, AreWritten, AreWrittenIn};
@@ -75,7 +75,8 @@ impl From<AllocError> for Halt {
 /// Runs a script on the first goal of a statement ("Bullets, hints and branches" in docs/MOVES.md).
 ///
 /// A closed run gives the statement's formula with the proof that its moves made, which the kernel has checked: it never
-/// refuses it. The proof names theorems that are available alone. It fails only for want of memory.
+/// refuses it. The proof names theorems that are available alone, and where these are true of the natural numbers the
+/// statement is. It fails only for want of memory.
 pub fn run<A: Acts>(
     acts: &A,
     alloc: Global,
@@ -245,7 +246,7 @@ fn parts<A: Acts>(
 fn stopped(alloc: Global, state: &mut State, item: u32, part: u32, cause: Cause) -> Halt
     ensures { result ≡ halt.Stop (record { item = item; part = part; cause = cause; goals = state.old.goals }) }
 {
-    let goals = std::mem::replace(&mut state.goals, Items::new(alloc));
+    let goals = state.taken(alloc);
     Halt::Stop(Stop {
         item,
         part,
@@ -266,7 +267,7 @@ fn ended(
     requires leads { Leads (lookup_of lookup.now) (frames_of state.frames) (asked statement.now ∷ []) (goals_of state.goals) }
     ensures { Ends (lookup_of lookup.now) statement.now (outcome (Ok (goals_of state.goals))) result }
 {
-    let State { goals, frames } = state;
+    let State { goals, frames, .. } = state;
     if !goals.is_empty() {
         return Ok(Outcome::Unfinished { goals });
     }
@@ -304,6 +305,7 @@ fn checked(
     requires proof { IsProof (lookup_of lookup.now) statement.now (proof_in proof) }
     ensures goal { IfOk result (λ c. formula c.0 ≡ closed statement.now.binders.items (formula statement.now.target)) }
     ensures proof { IfOk result (λ c. IsProof (lookup_of lookup.now) statement.now (proof_in c.1)) }
+    ensures truth { IfOk result (λ c. IsTrueByTheorems (lookup_of lookup.now) statement.now (proof_in c.1)) }
 {
     let goal = statement_formula(alloc, statement)?;
     match admit(alloc, lookup.sig, lookup.theorems, goal, proof.into_inner())? {

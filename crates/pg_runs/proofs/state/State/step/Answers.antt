@@ -1,12 +1,12 @@
 use Rattle.std.proofs.Common.{refl, ◌≡◌, ◌-◌, List, ◌∷◌, [], length, take, drop, subst, ap, ◌∙◌}
-use Rattle.std.specs.Prelude.{Ok, Err}
 use Rattle.std.proofs.lemmas.List.{map-append}
 use Rattle.pg_script.specs.View.{step as move_in}
 use Rattle.pg_moves.specs.Steps.{step}
 use Rattle.pg_goal.specs.declared.goal.Goal.{Goal}
 use Rattle.pg_goal.specs.View.{goal_of, lookup_of}
 use Rattle.pg_runs.specs.State.{goals_of, HaveRoom}
-use Rattle.pg_runs.specs.Running.{IsReduced, Steps}
+use Rattle.pg_reduction.specs.Limits.{AreOthers}
+use Rattle.pg_runs.specs.Running.{Steps}
 use Rattle.pg_runs.proofs.Carrying.{ready, counted}
 use Rattle.pg_runs.proofs.Stepping.{first_of, none_of, rest_of, handed, cannot, no_goal, halted, done}
 use Rattle.pg_runs.proofs.state.State.step.Goals as goal
@@ -37,7 +37,7 @@ returns m c =
     let gs = c.args.self.now.goals in
     let here = subst (λ gs. goals_of gs ≡ goal_of c.goal-item.result ∷ goals_of (drop 1 gs)) c.as_slice.ensures (first_of c.as_slice.result.now c.goal-item.result c.goal-item.is c.in-len1-up.len_at_least) in
     done (lookup_of c.args.lookup.now) (move_in c.args.step.now) c.args.part c.args.self.now c.advance.new.self (goal_of c.goal-item.result) (goals_of (drop 1 gs)) c.in_ok-made.made
-    here c.requires.part c.in_ok-can_move.ensures (λ a e. subst (λ rest. IsReduced (lookup_of c.args.lookup.now) (goal_of c.goal-item.result) (goals_of rest) a (Ok c.in_ok-made.made)) (rest_here c.as_slice.result.now gs c.as_slice.ensures) (c.in_ok-made.ensures a e)) c.in_ok-advance.ensures.frames
+    here c.requires.part c.in_ok-can_move.ensures (λ a e. c.in_ok-made.ensures (goals_of (drop 1 gs)) a (subst (λ rest. AreOthers (goals_of rest) c.others-others.result) (rest_here c.as_slice.result.now gs c.as_slice.ensures) c.others-others.ensures) e) c.in_ok-advance.ensures.frames
     (ap goals_of c.in_ok-advance.ensures.goals ∙ map-append goal_of c.in_ok-made.made.goals (drop 1 gs))
 
 pub returns-in_err-can_move : goal.returns-in_err-can_move
@@ -58,4 +58,4 @@ returns-in_err-made x c =
     let f = c.in_err-made.field-0.0 in
     handed (Steps l (step l (goals_of old.goals) m c.args.part) old old) c.from_residual-in_err-made.result f c.from_residual-in_err-made.ensures
     (halted l m c.args.part old (goal_of c.goal-item.result) (goals_of (drop 1 gs)) f here c.requires.part c.in_ok-can_move.ensures
-    (λ a e. subst (λ rest. IsReduced l (goal_of c.goal-item.result) (goals_of rest) a (Err f)) (rest_here c.as_slice.result.now gs c.as_slice.ensures) (c.in_err-made.ensures a e)))
+    (λ a e. c.in_err-made.ensures (goals_of (drop 1 gs)) a (subst (λ rest. AreOthers (goals_of rest) c.others-others.result) (rest_here c.as_slice.result.now gs c.as_slice.ensures) c.others-others.ensures) e))

@@ -1,5 +1,5 @@
 use Rattle.pg_runs.proofs.Introducing.{pushes}
-use Rattle.pg_runs.proofs.state.introduced.Goals as goal
+use Rattle.pg_runs.proofs.moving.introduced.Goals as goal
 
 pub loop-binder-preserved : goal.loop-binder-preserved
 loop-binder-preserved c =
