@@ -1,5 +1,5 @@
 -- The act of a part: where it stands in the list of a move's acts.
-use Rattle.std.proofs.Common.{◌≡◌, Option, Bor, None, ℕ, zero, suc, ◌+◌, ◌<◌, List, [], ◌∷◌, length, map, Some, None, refl, sym, ap, ◌∙◌, subst, arith}
+use Rattle.std.proofs.Common.{◌≡◌, Option, Bor, None, ℕ, zero, suc, ◌<◌, List, [], ◌∷◌, length, map, Some, None, refl, sym, ap, ◌∙◌, subst, arith}
 use Rattle.std.specs.Prelude.{Result, Ok, Err, All, slice_get}
 use Rattle.std.specs.Option.{option_copied}
 use Rattle.std.specs.List.{AllByRecursion}
@@ -12,7 +12,6 @@ use Rattle.pg_reduction.specs.declared.cause.ActFault.{ActFault}
 use Rattle.pg_reduction.specs.declared.cause.ActFault.TheVariants.{Stop, OutOfMemory}
 use Rattle.pg_reduction.specs.declared.reduction.Reduction.{Reduction}
 use Rattle.pg_reduction.specs.Doing.{Does, DoesWithin, StopsWithin}
-use Rattle.pg_reduction.specs.View.{cause_of}
 use Rattle.pg_moves.specs.Steps.{new_goals}
 
 -- the one act of a list of one

@@ -1,5 +1,5 @@
 -- The formulas of a goal are small, one by one.
-use Rattle.std.proofs.Common.{Option, Some, None, Bor, ◌≡◌, ◌≢◌, ◌<◌, ◌*◌, ◌^◌, List, [], ◌∷◌, ◌++◌, map, arith}
+use Rattle.std.proofs.Common.{Option, Some, None, Bor, ◌≢◌, ◌<◌, ◌^◌, List, [], ◌∷◌, ◌++◌, map, arith}
 use Rattle.std.specs.Prelude.{All, IfSome, option_map}
 use Rattle.std.specs.List.{AllByRecursion}
 use Rattle.std.proofs.lemmas.List.Elements.{All-from_recursion, recursion_from_All}

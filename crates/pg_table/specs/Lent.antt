@@ -2,9 +2,8 @@
 use Rattle.std.specs.Borrow.{Bor}
 use Rattle.pg_base.specs.Tokens.{Word, word}
 use Rattle.pg_base.specs.declared.token.Token.{Token}
-use Rattle.pg_script.specs.Data.{Part, Expression}
-use Rattle.pg_script.specs.View.{part, expression}
-use Rattle.pg_script.specs.declared.item.Piece.{Piece}
+use Rattle.pg_script.specs.Data.{Expression}
+use Rattle.pg_script.specs.View.{expression}
 use Rattle.pg_script.specs.declared.item.Expr.{Expr}
 
 -- a token

@@ -11,7 +11,7 @@ ghost use Rattle.pg_moves.specs.First.{first_goal};
 ghost use Rattle.pg_moves.specs.Runs as runs;
 ghost use Rattle.pg_goal.specs.Conditions.{IsCounted, AreTexts};
 ghost use Rattle.pg_goal.specs.View.{goal_of, lookup_of};
-ghost use Rattle.pg_reduction.specs.Doing.{IsReady, Does};
+ghost use Rattle.pg_reduction.specs.Doing.{IsReady, Does, DoesWithin};
 ghost use Rattle.pg_runs.specs.Asked.{CanRun};
 ghost use Rattle.pg_runs.specs.Running.{Ends};
 ghost use Rattle.pg_acts.specs.Giving.{lent};
@@ -131,7 +131,7 @@ fn applied(
     requires ready { IsReady (lookup_of lookup.now) (goal_of goal.now) }
     requires counted { IsCounted (lookup_of lookup.now) (goal_of goal.now) }
     requires texts { AreTexts (expression expr.now).args }
-    ensures { Does (lookup_of lookup.now) (goal_of goal.now) (apply_act (expression expr.now) (option_map lent_word place.entry)) result }
+    ensures { DoesWithin (lookup_of lookup.now) (goal_of goal.now) (apply_act (expression expr.now) (option_map lent_word place.entry)) result }
 {
     match place {
         None => apply(alloc, goal, expr, lookup),
