@@ -4,7 +4,8 @@
 In README.md and docs/*.md an example is an indented block whose lines begin with `$ `: a command, run at the top of the
 checkout, and below it what it prints. A table headed `Script`, `Place`, `Expected there` and `Note` is run too, each
 script as a row of `pg_rows`. A game that a stored run plays is the shipped one, and
-each part that `bench/parts.py` times stands in the stored rows. In docs/ROWS.md an example is a row with its answer.
+each part that `bench/parts.py` times stands in the stored rows. In docs/ROWS.md an example is a row with its answer. A block that begins
+with `statement` is a run by `pg_plays`, where `+` is declared.
 
 The gate runs this once everything is proved and built. It prints each difference, and then how many examples hold.
 """
@@ -16,7 +17,9 @@ import sys
 
 TOP = os.path.dirname(os.path.dirname(os.path.realpath(__file__)))
 ROWS = f"{TOP}/crates/pg_rows/out/pg_rows"
+PLAYS = f"{TOP}/crates/pg_plays/out/pg_plays"
 PROGRAM = f"{TOP}/crates/proofgame/out/proofgame"
+ADDITION = "function + add_zero add_succ r a d : a ; succ r"
 
 
 def examples(text):
@@ -68,6 +71,22 @@ def differences(page, text):
         yield None if is_right else f"{page}: the script `{script}` has `{got}`, and not {wanted} at {place}"
 
 
+def plays(page, text):
+    """Yields for each run in the blocks of a page that begin with `statement` what is wrong with it, or None.
+
+    A script stands further to the right than the statement before it, and what it comes to below it.
+    """
+    for block in re.findall(r"(?m)^((?:    .*\n)+)", text + "\n"):
+        lines = [it[4:] for it in block.split("\n")[:-1]]
+        if not lines[0].startswith("statement "):
+            continue
+        statement, script, wanted = lines[0], [it[4:] for it in lines[1:] if it.startswith("    ")], [it for it in lines[1:] if not it.startswith("    ")]
+        rows = "\n".join([ADDITION, statement, "script " + "\\n".join(script)]) + "\n"
+        done = subprocess.run([PLAYS], input=rows, capture_output=True, text=True, check=False)
+        got = [it[4:] for it in done.stdout.split("\n") if it.startswith("    ")]
+        yield None if got == wanted else f"{page}: {statement!r} and {script} come to {got}"
+
+
 def games():
     """Yields for each shipped game that a stored run plays whether it is that very text."""
     for path in glob.glob(f"{TOP}/crates/*/data/*.game"):
@@ -87,15 +106,17 @@ def parts():
 
 def rows(text):
     """Yields for each example block of the page on rows what is wrong with it, or None."""
-    for block in re.findall(r"(?m)^((?:    .*\n)+)", text):
-        lines = [it[4:] for it in block.split("\n")[:-1]]
-        given = "\n".join(it for it in lines if not it.startswith("    ")) + "\n"
-        got = subprocess.run([ROWS], input=given, capture_output=True, text=True, check=False).stdout.split("\n")[:-1]
-        yield None if got == lines else f"docs/ROWS.md: {given!r} is answered {got}"
+    before, _, plays = text.partition("\n## Plays\n")
+    for program, part in ((ROWS, before), (PLAYS, plays)):
+        for block in re.findall(r"(?m)^((?:    .*\n)+)", part):
+            lines = [it[4:] for it in block.split("\n")[:-1]]
+            given = "\n".join(it for it in lines if not it.startswith("    ")) + "\n"
+            got = subprocess.run([program], input=given, capture_output=True, text=True, check=False).stdout.split("\n")[:-1]
+            yield None if got == lines else f"docs/ROWS.md: {given!r} is answered {got}"
 
 
 def main():
-    for program in (ROWS, PROGRAM):
+    for program in (ROWS, PLAYS, PROGRAM):
         if not os.path.isfile(program):
             sys.exit(f"{program} is not built: run `rt ci` first")
         # The gate has just proved these sources; what it had kept of an earlier run is older than a fresh clone.
@@ -104,7 +125,8 @@ def main():
     for page in sorted([f"{TOP}/README.md", *glob.glob(f"{TOP}/docs/*.md")]):
         with open(page, encoding="utf-8") as it:
             text = it.read()
-        found += rows(text) if page.endswith("/ROWS.md") else differences(os.path.relpath(page, TOP), text)
+        name = os.path.relpath(page, TOP)
+        found += rows(text) if page.endswith("/ROWS.md") else [*differences(name, text), *plays(name, text)]
     wrong = [it for it in found if it]
     for it in wrong:
         print(it)

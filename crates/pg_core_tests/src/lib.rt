@@ -5,6 +5,4 @@
 #[cfg(test)]
 mod closing;
 #[cfg(test)]
-mod first;
-#[cfg(test)]
 mod statement;

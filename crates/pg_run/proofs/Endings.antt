@@ -2,36 +2,31 @@
 use Rattle.std.proofs.Common.{◌≡◌, ℕ, List, [], ◌∷◌, Option, Some, None, inr, arith}
 use Rattle.std.specs.Borrow.{Bor}
 use Rattle.pg_base.specs.Outside.{GivesFile, Told}
-use Rattle.pg_logic.specs.Tree.{Fm}
-use Rattle.pg_tactic.specs.declared.first.FirstScript.{FirstScript}
-use Rattle.pg_tactic.specs.declared.first.FirstScript.TheVariants.{Empty, Rfl}
 use Rattle.pg_run.specs.Asked.{Connections, ToldDoor, LeavesBehind, LeavesPart, Finishes, FinishesFirst, OneMore, StartsDoor, ReadsDoor, UsesDoorAt, Asks}
 use Rattle.pg_run.specs.Words.{game_name}
 use Rattle.pg_run.specs.declared.ending.Ending.{Ending}
-use Rattle.pg_run.specs.declared.ending.Ending.TheVariants.{Words, File, OtherGame, Door, Memory, Won, Open, SidesDiffer, OtherScript}
-use Rattle.pg_run.specs.Run.{Ends, EndsText, EndsRun}
-
-no-words : (target : Fm) (script : Option FirstScript) → Ends target script Words → ⊥
-no-words target (Some Empty) h = h
-no-words target (Some Rfl) h = h
-no-words target None h = h
-
-no-file : (target : Fm) (script : Option FirstScript) (name : Bor (List ℕ)) → Ends target script (File name) → ⊥
-no-file target (Some Empty) name h = h
-no-file target (Some Rfl) name h = h
-no-file target None name h = h
+use Rattle.pg_run.specs.declared.ending.Ending.TheVariants.{Words, File, OtherGame, Door, Memory, Played}
+use Rattle.pg_run.specs.Game.{Stated}
+use Rattle.pg_run.specs.Level.{IsGame}
+use Rattle.pg_run.specs.Run.{PlaysAt, EndsText, EndsRun}
 
 pub ends-text : (words : List (Bor (List ℕ))) (files : Option (List (List ℕ × List ℕ))) (coming : Option (List Told)) (file_failed door_failed : Type 0) (ending : Ending) (name text : List ℕ)
     → game_name words ≡ Some name → GivesFile files name 1048576 text → EndsText text coming door_failed ending → EndsRun words files coming file_failed door_failed ending
-ends-text words files coming file_failed door_failed Words name text named gives h = absurd (no-words h.target _ h.plays.ends)
-ends-text words files coming file_failed door_failed (File other) name text named gives h = absurd (no-file h.target _ other h.plays.ends)
+ends-text words files coming file_failed door_failed Words name text named gives h = absurd h.plays
+ends-text words files coming file_failed door_failed (File other) name text named gives h = absurd h.plays
 ends-text words files coming file_failed door_failed Memory name text named gives h = tt
 ends-text words files coming file_failed door_failed OtherGame name text named gives h = record { name = name; named = named; text = text; gives = gives; ends = h }
 ends-text words files coming file_failed door_failed Door name text named gives h = record { name = name; named = named; text = text; gives = gives; ends = h }
-ends-text words files coming file_failed door_failed Won name text named gives h = record { name = name; named = named; text = text; gives = gives; ends = h }
-ends-text words files coming file_failed door_failed (Open shown) name text named gives h = record { name = name; named = named; text = text; gives = gives; ends = h }
-ends-text words files coming file_failed door_failed SidesDiffer name text named gives h = record { name = name; named = named; text = text; gives = gives; ends = h }
-ends-text words files coming file_failed door_failed OtherScript name text named gives h = record { name = name; named = named; text = text; gives = gives; ends = h }
+ends-text words files coming file_failed door_failed (Played lines) name text named gives h = record { name = name; named = named; text = text; gives = gives; ends = h }
+
+-- a game that is played so ends so
+pub plays-ends : (text : List ℕ) (coming : Option (List Told)) (door_failed : Type 0) (ending : Ending) (g : Stated) → IsGame text g → PlaysAt g coming door_failed ending → EndsText text coming door_failed ending
+plays-ends text coming door_failed Words g game h = absurd h
+plays-ends text coming door_failed (File name) g game h = absurd h
+plays-ends text coming door_failed OtherGame g game h = absurd h
+plays-ends text coming door_failed Memory g game h = tt
+plays-ends text coming door_failed Door g game h = record { stated = g; game = game; plays = h }
+plays-ends text coming door_failed (Played lines) g game h = record { stated = g; game = game; plays = h }
 
 -- What was read as far as a script reaches was read so far as it was.
 behind-part : (old now : Option (List ℕ)) → LeavesBehind old now → LeavesPart old now
@@ -54,13 +49,10 @@ reads-starts old new h = record { place = h.place; lists = inr (first-part old.c
 pub asks-text : (words : List (Bor (List ℕ))) (coming : Option (List Told)) (door_failed : Type 0) (names names_now : List (List ℕ)) (door door_now : ToldDoor) (ending : Ending)
     (name text : List ℕ) → game_name words ≡ Some name → OneMore names names_now name → EndsText text coming door_failed ending
     → UsesDoorAt door door_now ending → Asks words names names_now door door_now ending
-asks-text words coming door_failed names names_now door door_now Words name text named asked h uses = absurd (no-words h.target _ h.plays.ends)
-asks-text words coming door_failed names names_now door door_now (File other) name text named asked h uses = absurd (no-file h.target _ other h.plays.ends)
+asks-text words coming door_failed names names_now door door_now Words name text named asked h uses = absurd h.plays
+asks-text words coming door_failed names names_now door door_now (File other) name text named asked h uses = absurd h.plays
 asks-text words coming door_failed names names_now door door_now Memory name text named asked h uses =
     inr (record { file = record { name = name; named = named; asked = asked }; uses = uses })
 asks-text words coming door_failed names names_now door door_now OtherGame name text named asked h uses = record { file = record { name = name; named = named; asked = asked }; uses = uses }
 asks-text words coming door_failed names names_now door door_now Door name text named asked h uses = record { file = record { name = name; named = named; asked = asked }; uses = uses }
-asks-text words coming door_failed names names_now door door_now Won name text named asked h uses = record { file = record { name = name; named = named; asked = asked }; uses = uses }
-asks-text words coming door_failed names names_now door door_now (Open shown) name text named asked h uses = record { file = record { name = name; named = named; asked = asked }; uses = uses }
-asks-text words coming door_failed names names_now door door_now SidesDiffer name text named asked h uses = record { file = record { name = name; named = named; asked = asked }; uses = uses }
-asks-text words coming door_failed names names_now door door_now OtherScript name text named asked h uses = record { file = record { name = name; named = named; asked = asked }; uses = uses }
+asks-text words coming door_failed names names_now door door_now (Played lines) name text named asked h uses = record { file = record { name = name; named = named; asked = asked }; uses = uses }

@@ -1,6 +1,6 @@
 mod Endings
 mod Games
-mod Scripts
+mod Levels
 mod Shapes
 mod Taking
 mod Winning

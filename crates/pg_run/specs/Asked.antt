@@ -10,7 +10,7 @@ use Rattle.pg_base.specs.declared.outside.Place.{Place}
 use Rattle.pg_base.specs.declared.outside.Place.TheVariants.{Standard}
 use Rattle.pg_run.specs.Words.{game_name}
 use Rattle.pg_run.specs.declared.ending.Ending.{Ending}
-use Rattle.pg_run.specs.declared.ending.Ending.TheVariants.{Words, File, OtherGame, Door, Memory, Won, Open, SidesDiffer, OtherScript}
+use Rattle.pg_run.specs.declared.ending.Ending.TheVariants.{Words, File, OtherGame, Door, Memory, Played}
 
 -- ---- a door
 

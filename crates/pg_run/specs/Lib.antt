@@ -1,6 +1,7 @@
 pub mod Asked
 pub mod Ending
 pub mod Game
+pub mod Level
 pub mod Print
 pub mod Reading
 pub mod Run

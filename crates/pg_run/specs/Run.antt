@@ -1,67 +1,49 @@
 -- One run of the program: how it ends, and what it prints.
-use Rattle.std.specs.Prelude.{◌≡◌, ◌⊎◌, ℕ, true, false, List, [], ◌∷◌, ◌++◌, Option, Some, None, IsSome, ⊤}
+use Rattle.std.specs.Prelude.{◌≡◌, ◌⊎◌, ℕ, List, [], ◌∷◌, ◌++◌, Option, Some, None, IsSome, ⊤, codes, string_bytes}
 use Rattle.std.specs.Borrow.{Bor}
-use Rattle.pg_logic.specs.Tree.{Fm}
-use Rattle.pg_logic.specs.Kernel.{is_reflexive, reflexive}
-use Rattle.pg_logic.specs.Numeral.{SidesHaveOneValue, no_declarations}
-use Rattle.pg_logic.specs.Truth.{IsTrueOf}
-use Rattle.pg_terms.specs.View.{formula}
-use Rattle.pg_tactic.specs.First.{IsAccepted}
-use Rattle.pg_tactic.specs.declared.first.FirstScript.{FirstScript}
-use Rattle.pg_tactic.specs.declared.first.FirstScript.TheVariants.{Empty, Rfl}
 use Rattle.pg_base.specs.Outside.{GivesFile}
+use Rattle.pg_moves.specs.Runs.{Closed}
+use Rattle.pg_attempt.specs.Lines.{line, lines_of}
 use Rattle.pg_run.specs.Asked.{Connections, ToldDoor, DoorFailed, Asks}
-use Rattle.pg_run.specs.Game.{IsGameText}
+use Rattle.pg_run.specs.Game.{Stated}
+use Rattle.pg_run.specs.Level.{IsGame, IsTrue, nothing, played}
 use Rattle.pg_run.specs.Print.{Printed}
-use Rattle.pg_run.specs.Script.{script_of, DoorGave}
+use Rattle.pg_run.specs.Script.{DoorGave}
 use Rattle.pg_run.specs.Words.{game_name}
 use Rattle.pg_run.specs.Ending.{text_of, status_of}
-use Rattle.pg_run.specs.declared.game.Sample.{Sample}
 use Rattle.pg_run.specs.declared.ending.Ending.{Ending}
-use Rattle.pg_run.specs.declared.ending.Ending.TheVariants.{Words, File, OtherGame, Door, Memory, Won, Open, SidesDiffer, OtherScript}
+use Rattle.pg_run.specs.declared.ending.Ending.TheVariants.{Words, File, OtherGame, Door, Memory, Played}
 
 -- ---- how a run ends
 
--- The target's sides are one numeral: the kernel accepts the proof by reflexivity, both sides have one value in the
--- standard model, and so the target is true of the natural numbers.
-pub record IsWon (target : Fm) : Type 0 where
-  pub same : is_reflexive target ≡ true
-  pub accepted : IsAccepted reflexive target
-  pub value : SidesHaveOneValue target
-  pub truth : IsTrueOf no_declarations [] target
+-- The lines tell what a script comes to in the level of a game. Where it wins, the statement is true of the natural numbers.
+pub record Tells (g : Stated) (script lines : List ℕ) : Type 0 where
+  pub exact : lines ≡ lines_of nothing (played g script)
+  pub truth : played g script ≡ Closed → IsTrue g
 
--- what a script makes of a target
-abbrev pub Ends : Fm → Option FirstScript → Ending → Type 0
-Ends target (Some Rfl) Won = IsWon target
-Ends target (Some Rfl) SidesDiffer = is_reflexive target ≡ false
-Ends target (Some Empty) (Open shown) = formula shown.formula ≡ target
-Ends target None OtherScript = ⊤
-Ends target script ending = ⊥
-
--- the door gave a script, and it makes this of the target
-pub record Plays (target : Fm) (coming : Connections) (ending : Ending) : Type 0 where
+-- the door gave a script, and these lines tell what it comes to
+pub record Plays (g : Stated) (coming : Connections) (lines : List ℕ) : Type 0 where
   pub script : List ℕ
   pub gave : DoorGave coming script
-  pub ends : Ends target (script_of script) ending
+  pub tells : Tells g script lines
 
 -- The door fails only by its cause, and want of memory is free.
-abbrev pub PlaysAt : Fm → Connections → Type 0 → Ending → Type 0
-PlaysAt target coming door_failed Door = door_failed
-PlaysAt target coming door_failed Memory = ⊤
-PlaysAt target coming door_failed ending = Plays target coming ending
+abbrev pub PlaysAt : Stated → Connections → Type 0 → Ending → Type 0
+PlaysAt g coming door_failed Door = door_failed
+PlaysAt g coming door_failed Memory = ⊤
+PlaysAt g coming door_failed (Played lines) = Plays g coming (string_bytes lines)
+PlaysAt g coming door_failed ending = ⊥
 
 -- the text is a game, and it is played to this ending
 pub record EndsGame (text : List ℕ) (coming : Connections) (door_failed : Type 0)
     (ending : Ending) : Type 0 where
-  pub target : Fm
-  pub sample : Sample
-  pub game : IsGameText text target sample
-  pub plays : PlaysAt target coming door_failed ending
+  pub stated : Stated
+  pub game : IsGame text stated
+  pub plays : PlaysAt stated coming door_failed ending
 
 -- how a run with this text ends
 abbrev pub EndsText : List ℕ → Connections → Type 0 → Ending → Type 0
-EndsText text coming door_failed OtherGame =
-    (target : Fm) (sample : Sample) → IsGameText text target sample → ⊥
+EndsText text coming door_failed OtherGame = (g : Stated) → IsGame text g → ⊥
 EndsText text coming door_failed Memory = ⊤
 EndsText text coming door_failed ending = EndsGame text coming door_failed ending
 
@@ -100,26 +82,29 @@ pub record Runs (words : List (Bor (List ℕ)))
 
 -- ---- where `won` is printed
 
--- the words name a game, the script of the door is `rfl`, and the level is won
+abbrev pub won_text : List ℕ
+won_text = line (codes "won")
+
+-- The words name a game, and the script of the door wins its level: a run of it is closed, and so the statement is true of
+-- the natural numbers.
 pub record Wins (words : List (Bor (List ℕ))) (files : Option (List (List ℕ × List ℕ)))
     (coming : Connections) : Type 0 where
   pub name : List ℕ
   pub named : game_name words ≡ Some name
   pub text : List ℕ
   pub gives : GivesFile files name 1048576 text
-  pub target : Fm
-  pub sample : Sample
-  pub game : IsGameText text target sample
+  pub stated : Stated
+  pub game : IsGame text stated
   pub script : List ℕ
   pub gave : DoorGave coming script
-  pub is_rfl : script_of script ≡ Some Rfl
-  pub won : IsWon target
+  pub won : played stated script ≡ Closed
+  pub truth : IsTrue stated
 
 -- `won` alone was printed, and the status is 0
 pub record PrintsWon (result : ℕ) (old new : Option (List ℕ)) : Type 0 where
   pub before : List ℕ
   pub was : old ≡ Some before
-  pub is : new ≡ Some (before ++ text_of Won)
+  pub is : new ≡ Some (before ++ won_text)
   pub status : result ≡ 0
 
 -- the door tells its first connection, and the connection what is left to read
@@ -132,6 +117,6 @@ TellsScript (Some (conn ∷ rest)) = IsSome conn.left
 abbrev pub PrintsWonUnless : Type 0 → Type 0
     → ℕ → Option (List ℕ) → Option (List ℕ) → Type 0 → Type 0
 PrintsWonUnless file_failed door_failed result old new out_failed =
-    Printed (text_of Won) 0 result old new out_failed
+    Printed won_text 0 result old new out_failed
     ⊎ Printed (text_of Memory) 4 result old new out_failed
     ⊎ file_failed ⊎ door_failed

@@ -1,5 +1,5 @@
 -- Each token as the symbol that it is in a one-level game.
-use Rattle.std.specs.Prelude.{ℕ, Bool, true, false, ◌&&◌, ◌||◌, List, [], ◌∷◌, length, codes, if◌then◌else◌, ◌==◌, nat_le}
+use Rattle.std.specs.Prelude.{ℕ, Bool, true, false, ◌&&◌, ◌||◌, List, [], ◌∷◌, length, codes, if◌then◌else◌, ◌==◌, nat_le, Option, Some, None}
 use Rattle.std.specs.Char.{is_ascii_alphabetic, is_ascii_alphanumeric}
 use Rattle.std.specs.Str.{bytes_eq}
 use Rattle.std.specs.List.{list_all}
@@ -8,8 +8,10 @@ use Rattle.pg_base.specs.declared.token.Sign.TheVariants as signs
 use Rattle.pg_base.specs.declared.token.TokenKind.{TokenKind}
 use Rattle.pg_base.specs.declared.token.TokenKind.TheVariants as kinds
 use Rattle.pg_base.specs.Tokens.{Word}
+use Rattle.pg_worlds.specs.declared.tactic_name.TacticName.{TacticName}
+use Rattle.pg_moves.specs.Acts.{move_named}
 use Rattle.pg_run.specs.declared.symbol.Symbol.{Symbol}
-use Rattle.pg_run.specs.declared.symbol.Symbol.TheVariants.{World, WorldName, Level, One, Statement, Colon, Zero, Succ, Open, Close, Equal, Assign, By, Rfl, Sorry, NewTactic, Other}
+use Rattle.pg_run.specs.declared.symbol.Symbol.TheVariants.{World, WorldName, Level, One, Statement, Colon, Zero, Succ, Open, Close, Equal, Assign, By, Sorry, NewTactic, Tactic, Other}
 
 abbrev pub begins_with_letter : List ℕ → Bool
 begins_with_letter [] = false
@@ -32,14 +34,21 @@ command_symbol text =
     else (if bytes_eq text (codes "NewTactic") then NewTactic
     else Other)))
 
+-- a move's word, and any other text
+abbrev pub symbol_of_move : Option TacticName → Symbol
+symbol_of_move (Some t) = Tactic t
+symbol_of_move None = Other
+
+abbrev pub tactic_symbol : List ℕ → Symbol
+tactic_symbol text = symbol_of_move (move_named text)
+
 -- a name behind another token of its line
 abbrev pub name_symbol : List ℕ → Symbol
 name_symbol text =
     if bytes_eq text (codes "succ") then Succ
     else (if bytes_eq text (codes "by") then By
-    else (if bytes_eq text (codes "rfl") then Rfl
     else (if bytes_eq text (codes "sorry") then Sorry
-    else Other)))
+    else tactic_symbol text))
 
 abbrev pub number_symbol : List ℕ → Symbol
 number_symbol text = if bytes_eq text (codes "0") then Zero else (if bytes_eq text (codes "1") then One else Other)

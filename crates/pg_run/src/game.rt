@@ -1,17 +1,16 @@
 // One-level games, read from their symbols.
-ghost use Rattle.std.specs.Prelude.{◌≡◌, ◌∷◌, [], IfOk, MatchOption, true, false, None, Some, map};
-ghost use Rattle.pg_logic.specs.Kernel.{is_reflexive};
-ghost use Rattle.pg_terms.specs.View.{term, formula};
+ghost use Rattle.std.specs.Prelude.{◌≡◌, ◌∷◌, [], IfOk, IfSome, MatchOption, None, Some, map, option_map};
+ghost use Rattle.pg_terms.specs.View.{term};
 ghost use Rattle.pg_base.specs.Tokens.{word};
-ghost use Rattle.pg_run.specs.declared.game.Sample.TheVariants as sample;
 ghost use Rattle.pg_run.specs.Symbols.{symbol_of};
-ghost use Rattle.pg_run.specs.Game.{IsGame, IsGameText, Finds};
-ghost use Rattle.pg_run.specs.Reading.{after_close, argument, closed, inside_at, numeral_at, seen, after_heads, after_equal, sample_of, right_at, left_at, parts_of, game_at};
+ghost use Rattle.pg_run.specs.Game.{IsGame, IsGameText, Finds, stated};
+ghost use Rattle.pg_run.specs.Level.{CanStand};
+ghost use Rattle.pg_run.specs.Reading.{after_close, argument, closed, inside_at, numeral_at, seen, after_heads, after_equal, moves_of, sample_at, with_moves, tail_at, tail_of, right_at, left_at, stated_of, game_at};
 
 use crate::numeral::{Numeral, Target};
 use crate::symbol::{Symbol, symbol_of};
 use pg_base::{Token, TokensFault, tokens_of};
-use pg_tactic::{First, FirstScript, run_first};
+use pg_worlds::TacticName;
 use std::alloc::{AllocError, Global};
 
 /// How many bytes a game text may have.
@@ -32,12 +31,23 @@ pub enum Sample {
 pub struct Game {
     pub target: Target,
     pub sample: Sample,
+    /// The moves of its `NewTactic`.
+    pub tactics: Vec<TacticName>,
 }
 
-/// The one-level game that a text is, and None where it is none: where it has more bytes than the limit, is no UTF-8,
-/// has a token fault, or is spelled otherwise ("One-level games" in docs/GAME-TEXT.md).
+/// What stands behind the statement of a game.
+#[derive(Drop)]
+struct Tail {
+    sample: Sample,
+    tactics: Vec<TacticName>,
+}
+
+/// What a text spells as a one-level game, and None where it spells none: where it has more bytes than the limit, is no
+/// UTF-8, has a token fault, or is spelled otherwise ("One-level games" in docs/GAME-TEXT.md). Whether its sample wins
+/// is not asked here.
 pub fn game_in(alloc: Global, bytes: &[u8]) -> Result<Option<Game>, AllocError>
-    ensures { IfOk result (λ found. Finds found (IsGameText bytes.now)) }
+    ensures finds { IfOk result (λ found. Finds found (IsGameText bytes.now)) }
+    ensures stands { IfOk result (λ found. IfSome found (λ game. CanStand (stated game))) }
 {
     if bytes.len() > GAME_LIMIT {
         return Ok(None);
@@ -48,7 +58,7 @@ pub fn game_in(alloc: Global, bytes: &[u8]) -> Result<Option<Game>, AllocError>
     match tokens_of(alloc, text) {
         Ok(tokens) => {
             let symbols = symbols_of(alloc, &tokens)?;
-            game_of(alloc, &symbols)
+            game_at(alloc, &symbols)
         }
         Err(TokensFault::Lex(_)) => Ok(None),
         Err(TokensFault::OutOfMemory) => Err(AllocError),
@@ -66,19 +76,9 @@ fn symbols_of(alloc: Global, tokens: &[Token<'_>]) -> Result<Vec<Symbol>, AllocE
     Ok(symbols)
 }
 
-/// The game that these symbols are, if they are one.
-fn game_of(alloc: Global, symbols: &[Symbol]) -> Result<Option<Game>, AllocError>
-    ensures { IfOk result (λ found. Finds found (IsGame symbols.now)) }
-{
-    match game_at(alloc, symbols)? {
-        Some(game) => checked(alloc, game),
-        None => Ok(None),
-    }
-}
-
-/// The game that these symbols spell, whether or not its sample closes it.
+/// The game that these symbols spell, if they spell one.
 fn game_at(alloc: Global, symbols: &[Symbol]) -> Result<Option<Game>, AllocError>
-    ensures { IfOk result (λ game. parts_of game ≡ game_at symbols.now) }
+    ensures { IfOk result (λ game. stated_of game ≡ game_at symbols.now) }
 {
     match after_heads(symbols) {
         Some(rest) => left_at(alloc, rest),
@@ -106,7 +106,7 @@ fn after_heads(symbols: &[Symbol]) -> Option<&[Symbol]>
 
 /// The game from its left side on.
 fn left_at(alloc: Global, symbols: &[Symbol]) -> Result<Option<Game>, AllocError>
-    ensures { IfOk result (λ game. parts_of game ≡ left_at (numeral_at 100 symbols.now)) }
+    ensures { IfOk result (λ game. stated_of game ≡ left_at (numeral_at 100 symbols.now)) }
 {
     let Some((left, rest)) = numeral_at(alloc, symbols, NESTING_LIMIT)? else {
         return Ok(None);
@@ -129,41 +129,78 @@ fn after_equal(symbols: &[Symbol]) -> Option<&[Symbol]>
 
 /// The game with this left side, from its right side on.
 fn right_at(alloc: Global, left: Numeral, symbols: &[Symbol]) -> Result<Option<Game>, AllocError>
-    ensures { IfOk result (λ game. parts_of game ≡ right_at (term left.term) (numeral_at 100 symbols.now)) }
+    ensures { IfOk result (λ game. stated_of game ≡ right_at (term left.term) (numeral_at 100 symbols.now)) }
 {
     let Some((right, rest)) = numeral_at(alloc, symbols, NESTING_LIMIT)? else {
         return Ok(None);
     };
-    match sample_of(rest) {
-        Some(sample) => Ok(Some(Game {
-            target: Target::new(alloc, left, right)?,
-            sample,
-        })),
+    let Some(Tail { sample, tactics }) = tail_at(alloc, rest)? else {
+        return Ok(None);
+    };
+    Ok(Some(Game {
+        target: Target::new(alloc, left, right)?,
+        sample,
+        tactics,
+    }))
+}
+
+/// The sample and the moves in what stands behind a statement.
+fn tail_at(alloc: Global, symbols: &[Symbol]) -> Result<Option<Tail>, AllocError>
+    ensures { IfOk result (λ found. tail_of found ≡ tail_at symbols.now) }
+{
+    let [
+        Symbol::Assign,
+        Symbol::By,
+        sample,
+        Symbol::NewTactic,
+        moves @ ..,
+    ] = symbols
+    else {
+        return Ok(None);
+    };
+    match sample_at(*sample) {
+        Some(sample) => with_moves(alloc, sample, moves),
         None => Ok(None),
     }
 }
 
-/// The sample in what stands behind a statement.
-fn sample_of(symbols: &[Symbol]) -> Option<Sample>
-    ensures { result ≡ sample_of symbols.now }
+/// The sample that a symbol is.
+fn sample_at(symbol: Symbol) -> Option<Sample>
+    ensures { result ≡ sample_at symbol }
 {
-    match symbols {
-        [
-            Symbol::Assign,
-            Symbol::By,
-            Symbol::Rfl,
-            Symbol::NewTactic,
-            Symbol::Rfl,
-        ] => Some(Sample::Rfl),
-        [
-            Symbol::Assign,
-            Symbol::By,
-            Symbol::Sorry,
-            Symbol::NewTactic,
-            Symbol::Rfl,
-        ] => Some(Sample::Sorry),
+    match symbol {
+        Symbol::Tactic(TacticName::Rfl) => Some(Sample::Rfl),
+        Symbol::Sorry => Some(Sample::Sorry),
         _ => None,
     }
+}
+
+/// A sample with the moves of these symbols, where they are one move or more.
+fn with_moves(alloc: Global, sample: Sample, symbols: &[Symbol]) -> Result<Option<Tail>, AllocError>
+    ensures { IfOk result (λ found. tail_of found ≡ with_moves sample (moves_of symbols.now)) }
+{
+    if symbols.is_empty() {
+        return Ok(None);
+    }
+    match moves_of(alloc, symbols)? {
+        Some(tactics) => Ok(Some(Tail { sample, tactics })),
+        None => Ok(None),
+    }
+}
+
+/// The moves of these symbols, where all of them are moves.
+#[tactic(auto, using(crate::proofs::Games::further))]
+fn moves_of(alloc: Global, symbols: &[Symbol]) -> Result<Option<Vec<TacticName>>, AllocError>
+    ensures { IfOk result (λ found. option_map (λ v. v.items) found ≡ moves_of symbols.now) }
+{
+    let mut tactics = Vec::new(alloc);
+    for symbol in symbols {
+        match *symbol {
+            Symbol::Tactic(tactic) => tactics.push(tactic)?,
+            _ => return Ok(None),
+        }
+    }
+    Ok(Some(tactics))
 }
 
 /// The numeral at the front, and the symbols after it.
@@ -248,20 +285,4 @@ fn split_first(symbols: &[Symbol]) -> Option<(Symbol, &[Symbol])>
 {
     let (first, rest) = symbols.split_first()?;
     Some((*first, rest))
-}
-
-/// The game, unless its sample does not close it.
-fn checked(alloc: Global, game: Game) -> Result<Option<Game>, AllocError>
-    ensures { IfOk result (λ found. MatchOption found
-        ((game.sample ≡ sample.Rfl) × (is_reflexive (formula game.target.formula) ≡ false))
-        (λ same. (same ≡ game) × (game.sample ≡ sample.Rfl → is_reflexive (formula game.target.formula) ≡ true))) }
-{
-    match game.sample {
-        Sample::Sorry => Ok(Some(game)),
-        Sample::Rfl => match run_first(alloc, game.target.formula.get(), &FirstScript::Rfl) {
-            Ok(First::Closed(_)) => Ok(Some(game)),
-            Ok(First::Open | First::SidesDiffer) => Ok(None),
-            Err(e) => Err(e),
-        },
-    }
 }

@@ -3,6 +3,7 @@
 
 mod ending;
 mod game;
+mod level;
 mod numeral;
 mod play;
 mod printing;

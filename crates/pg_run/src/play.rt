@@ -1,18 +1,20 @@
 // One run of the program.
 ghost use Rattle.std.specs.Prelude.{◌≡◌, IfOk, IsSome};
-ghost use Rattle.pg_terms.specs.View.{formula};
+ghost use Rattle.pg_attempt.specs.Attempts.{CanAttempt};
 ghost use Rattle.pg_base.specs.Outside.{Rose};
 ghost use Rattle.pg_run.specs.Asked.{told_door, DoorFailed, UsesDoorAt, Asks};
-ghost use Rattle.pg_run.specs.Run.{Ends, PlaysAt, EndsText, EndsRun, Runs, Wins, PrintsWon, PrintsWonUnless, TellsScript};
+ghost use Rattle.pg_run.specs.Game.{Stated};
+ghost use Rattle.pg_run.specs.Level.{IsLevel, lookup_in};
+ghost use Rattle.pg_run.specs.Run.{PlaysAt, EndsText, EndsRun, Runs, Wins, PrintsWon, PrintsWonUnless, TellsScript};
 
 use crate::ending::{Ending, status_of, text_of};
-use crate::game::{GAME_LIMIT, Game, game_in};
+use crate::game::GAME_LIMIT;
+use crate::level::{Level, level_in};
 use crate::printing::print;
-use crate::script::{script_at, script_in};
+use crate::script::script_at;
 use crate::words::game_name;
 use pg_base::{Door, Files, OutFault, Sink};
-use pg_tactic::{First, FirstScript, run_first};
-use std::alloc::{AllocError, Global};
+use std::alloc::Global;
 
 /// One run of the program. The words are `play` and the name of a game's file; the script is that of the door's first
 /// connection. It prints how the run ends and gives its status ("Statuses" in docs/COMMAND-LINE.md).
@@ -84,49 +86,28 @@ fn play_text<D: Door>(alloc: Global, text: &[u8], door: &mut D) -> Ending<'stati
     ensures ends { let tells = told_door D.coming D.finished D.places D.given D.ended D.faults in
         EndsText text.now (D.coming door.old) (DoorFailed (tells door.old) (tells door.new)) result }
 {
-    match game_in(alloc, text) {
-        Ok(Some(game)) => play_game(alloc, game, door),
+    match level_in(alloc, text) {
+        Ok(Some(level)) => play_level(alloc, &level, door),
         Ok(None) => Ending::OtherGame,
         Err(_) => Ending::Memory,
     }
 }
 
 /// The script of the door's connection decides.
-fn play_game<D: Door>(alloc: Global, game: Game, door: &mut D) -> Ending<'static>
+fn play_level<D: Door>(alloc: Global, level: &Level, door: &mut D) -> Ending<'static>
+    requires { CanAttempt (lookup_in level.now) level.now.statement }
     ensures uses { let tells = told_door D.coming D.finished D.places D.given D.ended D.faults in
         UsesDoorAt (tells door.old) (tells door.new) result }
     ensures plays { let tells = told_door D.coming D.finished D.places D.given D.ended D.faults in
-        PlaysAt (formula game.target.formula) (D.coming door.old)
+        (g : Stated) → IsLevel g level.now → PlaysAt g (D.coming door.old)
         (DoorFailed (tells door.old) (tells door.new)) result }
 {
     match script_at(alloc, door) {
-        Ok(bytes) => match script_in(alloc, &bytes) {
-            Ok(script) => match ending_of(alloc, game, script) {
-                Ok(ending) => ending,
-                Err(_) => Ending::Memory,
-            },
+        Ok(bytes) => match level.told(alloc, &bytes) {
+            Ok(lines) => Ending::Played(lines),
             Err(_) => Ending::Memory,
         },
         Err(OutFault::Failed) => Ending::Door,
         Err(OutFault::OutOfMemory) => Ending::Memory,
-    }
-}
-
-/// What the script makes of the game.
-fn ending_of(
-    alloc: Global,
-    game: Game,
-    script: Option<FirstScript>,
-) -> Result<Ending<'static>, AllocError>
-    ensures { IfOk result (λ ending. Ends (formula game.target.formula) script ending) }
-{
-    let Some(script) = script else {
-        return Ok(Ending::OtherScript);
-    };
-    match run_first(alloc, game.target.formula.get(), &script) {
-        Ok(First::Closed(_)) => Ok(Ending::Won),
-        Ok(First::Open) => Ok(Ending::Open(game.target)),
-        Ok(First::SidesDiffer) => Ok(Ending::SidesDiffer),
-        Err(e) => Err(e),
     }
 }

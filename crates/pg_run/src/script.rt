@@ -1,15 +1,11 @@
 // The script of a run, from the door's first connection.
-ghost use Rattle.std.specs.Prelude.{◌≡◌, IfOk, Err, map};
+ghost use Rattle.std.specs.Prelude.{◌≡◌, IfOk, Err};
 ghost use Rattle.pg_base.specs.declared.outside.OutFault.TheVariants.{Failed};
 ghost use Rattle.pg_base.specs.Outside.{HasCause};
-ghost use Rattle.pg_base.specs.Tokens.{word};
-ghost use Rattle.pg_run.specs.Script.{is_rfl, script_of, script_of_words, TookFront, DoorGave};
+ghost use Rattle.pg_run.specs.Script.{TookFront, DoorGave};
 ghost use Rattle.pg_run.specs.Asked.{told_door, DoorFailed, LeavesBehind, LeavesPart, UsesDoor};
 
-use pg_base::{
-    Door, Link, OutFault, Place, Sink, Source, Token, TokenKind, TokensFault, tokens_of,
-};
-use pg_tactic::FirstScript;
+use pg_base::{Door, Link, OutFault, Place, Sink, Source};
 use std::alloc::{AllocError, Global};
 
 /// How many bytes a script may have.
@@ -54,49 +50,4 @@ fn read_script<L: Link>(alloc: Global, link: &mut L) -> Result<Vec<u8>, OutFault
         script.extend_from_slice(&chunk[..count])?;
     }
     Ok(script)
-}
-
-/// The script that these bytes are, and None where they have more than one move or a move other than `rfl`, are no
-/// UTF-8, are over the limit or have a token fault ("Scripts" in docs/GAME-TEXT.md).
-pub fn script_in(alloc: Global, bytes: &[u8]) -> Result<Option<FirstScript>, AllocError>
-    ensures { IfOk result (λ script. script ≡ script_of bytes.now) }
-{
-    if bytes.len() > SCRIPT_LIMIT {
-        return Ok(None);
-    }
-    let Ok(text) = str::from_utf8(bytes) else {
-        return Ok(None);
-    };
-    match tokens_of(alloc, text) {
-        Ok(tokens) => Ok(script_of(&tokens)),
-        Err(TokensFault::Lex(_)) => Ok(None),
-        Err(TokensFault::OutOfMemory) => Err(AllocError),
-    }
-}
-
-/// The script of these tokens, None where they have more than one move or a move other than `rfl`.
-fn script_of(tokens: &[Token<'_>]) -> Option<FirstScript>
-    ensures { result ≡ script_of_words (map word tokens.now) }
-{
-    match tokens {
-        [] => Some(FirstScript::Empty),
-        [token] => {
-            if is_rfl(token) {
-                Some(FirstScript::Rfl)
-            } else {
-                None
-            }
-        }
-        _ => None,
-    }
-}
-
-/// Whether a token is the move `rfl`.
-fn is_rfl(token: &Token<'_>) -> bool
-    ensures { result ≡ is_rfl (word token.now) }
-{
-    match token.kind {
-        TokenKind::Name => token.text == "rfl",
-        _ => false,
-    }
 }

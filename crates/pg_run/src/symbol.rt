@@ -1,9 +1,10 @@
 // Each token as the symbol that it is in a one-level game.
 ghost use Rattle.std.specs.Prelude.{◌≡◌};
 ghost use Rattle.pg_base.specs.Tokens.{word};
-ghost use Rattle.pg_run.specs.Symbols.{symbol_of, begins_with_letter, are_word_bytes, is_world_name, command_symbol, name_symbol, number_symbol, sign_symbol};
+ghost use Rattle.pg_run.specs.Symbols.{symbol_of, begins_with_letter, are_word_bytes, is_world_name, command_symbol, name_symbol, tactic_symbol, number_symbol, sign_symbol};
 
 use pg_base::{Sign, Token, TokenKind};
+use pg_worlds::TacticName;
 
 /// A token of a one-level game, by the part that it can play there ("One-level games" in docs/GAME-TEXT.md).
 #[derive(Clone, Copy, Debug, PartialEq, Eq)]
@@ -21,9 +22,10 @@ pub enum Symbol {
     Equal,
     Assign,
     By,
-    Rfl,
     Sorry,
     NewTactic,
+    /// The word of a move.
+    Tactic(TacticName),
     /// Any other token. No one-level game has it.
     Other,
 }
@@ -72,9 +74,18 @@ fn name_symbol(text: &str) -> Symbol
     match text {
         "succ" => Symbol::Succ,
         "by" => Symbol::By,
-        "rfl" => Symbol::Rfl,
         "sorry" => Symbol::Sorry,
-        _ => Symbol::Other,
+        _ => tactic_symbol(text),
+    }
+}
+
+/// The symbol of a move's word.
+fn tactic_symbol(text: &str) -> Symbol
+    ensures { result ≡ tactic_symbol text.now }
+{
+    match TacticName::named(text) {
+        Some(tactic) => Symbol::Tactic(tactic),
+        None => Symbol::Other,
     }
 }
 

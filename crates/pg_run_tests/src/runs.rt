@@ -9,6 +9,9 @@ const ONE_IS_ONE: &str =
 const ONE_IS_ZERO: &str =
     "World \"W\"\nLevel 1\nStatement : succ 0 = 0 := by sorry\nNewTactic rfl\n";
 
+const WITH_MOVES: &str =
+    "World \"W\"\nLevel 1\nStatement : succ 0 = 0 := by sorry\nNewTactic rfl symm have exact by_cases exfalso intro rw revert cases\n";
+
 const TWO_IS_TWO: &str =
     "World \"A_1\"\nLevel 1\nStatement : succ (succ 0) = (succ (succ (0))) := by sorry\nNewTactic rfl";
 
@@ -26,7 +29,8 @@ fn a_script_is_won_open_or_stopped(rt: HostRuntime) -> Result<(), Fail> {
     for (game, script, lines) in [
         (ONE_IS_ONE, b"rfl".as_slice(), "won\n"),
         (ONE_IS_ZERO, b"rfl", "stopped 0 0 S6\n"),
-        (ONE_IS_ZERO, b"foo", "stopped 0 0 later\n"),
+        (ONE_IS_ZERO, b"foo", "stopped 0 0 S2\n"),
+        (ONE_IS_ZERO, b"symm", "stopped 0 0 S3\n"),
         (ONE_IS_ONE, b"", "open 1\n⊢ succ 0 = succ 0\n"),
         (
             TWO_IS_TWO,
@@ -38,10 +42,10 @@ fn a_script_is_won_open_or_stopped(rt: HostRuntime) -> Result<(), Fail> {
             b"-- a comment\n  rfl /- and another -/\n",
             "won\n",
         ),
-        (ONE_IS_ONE, b"rfl rfl", "stopped 0 0 later\n"),
-        (ONE_IS_ONE, b"rfl $", "stopped 0 0 later\n"),
-        (ONE_IS_ONE, b"\"rfl\"", "stopped 0 0 later\n"),
-        (ONE_IS_ONE, b"rfl \xff", "stopped 0 0 later\n"),
+        (ONE_IS_ONE, b"rfl rfl", "stopped 0 0 S1\n"),
+        (ONE_IS_ONE, b"rfl $", "stopped 0 0 S1\n"),
+        (ONE_IS_ONE, b"\"rfl\"", "stopped 0 0 S1\n"),
+        (ONE_IS_ONE, b"rfl \xff", "stopped 0 0 S1\n"),
     ] {
         assert!(rt;
             plays(alloc, game.as_bytes(), script, (0, lines))?,
@@ -52,9 +56,48 @@ fn a_script_is_won_open_or_stopped(rt: HostRuntime) -> Result<(), Fail> {
 }
 
 #[test]
+fn scripts_use_the_moves_of_the_level(rt: HostRuntime) -> Result<(), Fail> {
+    let alloc = rt.alloc();
+    for (script, lines) in [
+        ("symm", "open 1\n⊢ 0 = succ 0\n"),
+        ("symm\nrfl", "stopped 1 0 S6\n"),
+        ("left", "stopped 0 0 S3\n"),
+        ("intro x", "stopped 0 0 S7\n"),
+        ("exact h", "stopped 0 0 S4\n"),
+        ("exact succ_inj", "stopped 0 0 S5\n"),
+        ("have h : 0 = x", "stopped 0 0 S13\n"),
+        ("have succ : 0 = 0", "stopped 0 0 S10\n"),
+        (
+            "have h : 0 = 0",
+            "open 2\n⊢ 0 = 0\nh : 0 = 0\n⊢ succ 0 = 0\n",
+        ),
+        ("have h : 0 = 0\n· rfl\n· exact h", "stopped 4 0 S14\n"),
+        ("have h : 0 = 0\n· symm", "stopped 1 0 S15\n"),
+        (
+            "have h : 0 = 0\nrfl\nrw [h]",
+            "open 1\nh : 0 = 0\n⊢ succ 0 = 0\n",
+        ),
+        ("have h : succ 0 = 0\nexact h", "stopped 1 0 S4\n"),
+        (
+            "by_cases h : succ 0 = 0\n· exact h\nrevert h",
+            "open 1\n⊢ succ 0 ≠ 0 → succ 0 = 0\n",
+        ),
+        ("exfalso", "open 1\n⊢ False\n"),
+        ("exfalso\nexfalso\n· rfl", "stopped 3 0 S7\n"),
+        ("have h : succ 0 = 0\n· exfalso\n  rfl", "stopped 3 0 S7\n"),
+    ] {
+        assert!(rt;
+            plays(alloc, WITH_MOVES.as_bytes(), script.as_bytes(), (0, lines))?,
+            "{script}"
+        );
+    }
+    Ok(())
+}
+
+#[test]
 fn a_script_has_at_most_16384_bytes(rt: HostRuntime) -> Result<(), Fail> {
     let alloc = rt.alloc();
-    for (blanks, lines) in [(16_381, "won\n"), (16_382, "stopped 0 0 later\n")] {
+    for (blanks, lines) in [(16_381, "won\n"), (16_382, "stopped 0 0 S1\n")] {
         let script = padded(alloc, "rfl", blanks, b' ')?;
         assert!(rt;
             plays(alloc, ONE_IS_ONE.as_bytes(), &script, (0, lines))?,
@@ -116,7 +159,10 @@ fn other_games_are_refused(rt: HostRuntime) -> Result<(), Fail> {
         "World \"W\"\nLevel 1\nStatement : 0 =\n0 := by rfl\nNewTactic rfl",
         "World \"W\"\nLevel 1\nStatement : succ succ 0 = 0 := by sorry\nNewTactic rfl",
         "World \"W\"\nLevel 1\nStatement : (0 = 0 := by sorry\nNewTactic rfl",
-        "World \"W\"\nLevel 1\nStatement : 0 = 0 := by rfl\nNewTactic rfl rfl",
+        "World \"W\"\nLevel 1\nStatement : 0 = 0 := by rfl\nNewTactic",
+        "World \"W\"\nLevel 1\nStatement : 0 = 0 := by rfl\nNewTactic symm",
+        "World \"W\"\nLevel 1\nStatement : 0 = 0 := by rfl\nNewTactic rfl foo",
+        "World \"W\"\nLevel 1\nStatement : 0 = 0 := by symm\nNewTactic rfl symm",
         "World \"W\"\nLevel 1\nStatement : 0 = 0 := by rfl\nNewTactic rfl $",
         "World \"W\"\nLevel 1\nNewTactic rfl\nStatement : 0 = 0 := by rfl",
     ] {
