@@ -4,7 +4,9 @@
 mod kind;
 mod lines;
 mod piece;
+mod which;
 
 pub use kind::{begins_passed_line, is_command, is_passed};
 pub use lines::standing;
 pub use piece::{Piece, first_piece};
+pub use which::{Listed, Which};
