@@ -11,14 +11,17 @@ use pg_base::{Token, TokenKind};
 pub fn begins_passed_line(token: &Token<'_>) -> bool
     ensures { result ≡ begins_passed_line (word token.now) }
 {
-    is_name(token) && token.column == 0 && matches!(token.text, "import" | "namespace" | "open" | "end")
+    is_name(token)
+        && token.column == 0
+        && matches!(token.text, "import" | "namespace" | "open" | "end")
 }
 
 /// Whether a token is the word of a command, also of one that is passed over.
 pub fn is_command(token: &Token<'_>) -> bool
     ensures { result ≡ is_command (word token.now) }
 {
-    is_name(token) && (is_game_word(token.text) || is_level_word(token.text) || is_passed_word(token.text))
+    is_name(token)
+        && (is_game_word(token.text) || is_level_word(token.text) || is_passed_word(token.text))
 }
 
 /// Whether a token is the word of a command that is passed over.
