@@ -1,0 +1,12 @@
+//! What stands behind a command's word in a game text: its parts, and the place of the first token with which
+//! no such command goes on.
+#![tactic(auto)]
+
+mod kind;
+mod parts;
+
+pub use kind::Kind;
+pub use parts::{
+    BinderText, ConstantText, Equation, FunctionText, Link, PredicateText, Span, StatementText,
+    Told,
+};
