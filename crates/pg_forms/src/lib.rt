@@ -4,9 +4,11 @@
 
 mod kind;
 mod parts;
+mod take;
 
 pub use kind::Kind;
 pub use parts::{
     BinderText, ConstantText, Equation, FunctionText, Link, PredicateText, Span, StatementText,
     Told,
 };
+pub use take::one_token;
