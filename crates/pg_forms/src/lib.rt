@@ -2,13 +2,15 @@
 //! no such command goes on.
 #![tactic(auto)]
 
+mod declared;
 mod kind;
 mod parts;
 mod take;
 
+pub use declared::{constant_told, function_told, predicate_told};
 pub use kind::Kind;
 pub use parts::{
     BinderText, ConstantText, Equation, FunctionText, Link, PredicateText, Span, StatementText,
     Told,
 };
-pub use take::one_token;
+pub use take::{names_told, one_token};

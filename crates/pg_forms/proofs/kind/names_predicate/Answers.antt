@@ -1,4 +1,4 @@
-use Rattle.std.proofs.Common.{◌≡◌, ◌||◌, true, false, sym, ap, ◌∙◌, refl}
+use Rattle.std.proofs.Common.{◌||◌, sym, ap, ◌∙◌}
 use Rattle.pg_base.specs.Tokens.{word}
 use Rattle.pg_gametext.specs.Forms.{is_predicate_sign}
 use Rattle.pg_forms.proofs.kind.names_predicate.Goals as goal
