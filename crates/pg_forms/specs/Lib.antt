@@ -1,0 +1,4 @@
+pub mod Equations
+pub mod Kinds
+pub mod Taken
+pub mod View

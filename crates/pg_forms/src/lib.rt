@@ -1,0 +1,16 @@
+//! What stands behind a command's word in a game text: its parts, and the place of the first token with which
+//! no such command goes on.
+#![tactic(auto)]
+
+mod declared;
+mod kind;
+mod parts;
+mod take;
+
+pub use declared::{constant_told, function_told, predicate_told};
+pub use kind::Kind;
+pub use parts::{
+    BinderText, ConstantText, Equation, FunctionText, Link, PredicateText, Span, StatementText,
+    Told,
+};
+pub use take::{names_told, one_token};
