@@ -1,7 +1,7 @@
 -- Small games, compiled as far as no sample is run, computed.
 use Rattle.std.proofs.Common.{◌≡◌, ℕ, List, [], ◌∷◌, refl}
-use Rattle.std.specs.Prelude.{Some, None, true, false, length, map}
-use Rattle.std.specs.Str.{chars}
+use Rattle.std.specs.Prelude.{Some, None, true, false, length, map, codes}
+use Rattle.std.specs.Str.{chars, encode_utf8_all}
 use Rattle.pg_base.specs.Tokens.{lexed}
 use Rattle.pg_script.specs.Blocks.{block_at}
 use Rattle.pg_script.specs.Scripts.{entries_of_tokens}
@@ -15,7 +15,7 @@ use Rattle.pg_compiled.specs.Compiled.{unknown_theorem, late_theorem}
 
 -- what is asked of the game that a text is, 0 where it is none
 abbrev asked : {X : Type 0} → X → (Game → X) → List ℕ → X
-asked other of bytes = elim (tokens_reading (length bytes) (lexed bytes)) [ Good g ↦ of g | _ ↦ other ]
+asked other of text = let bytes = encode_utf8_all text in elim (tokens_reading (length bytes) (lexed bytes)) [ Good g ↦ of g | _ ↦ other ]
 
 abbrev no_graph : Worlds
 no_graph = record { levels = []; needs = [] }
