@@ -2,6 +2,9 @@
 use Rattle.pg_base.specs.Tokens.{word}
 use Rattle.pg_script.specs.View.{words}
 use Rattle.pg_commands.specs.declared.piece.Piece.{Piece}
+use Rattle.pg_forms.specs.View.{told, token, names, links, function, constant, predicate, statement}
+use Rattle.pg_commands.specs.declared.command.Command.{Command}
+use Rattle.pg_commands.specs.declared.command.Command.TheVariants as its
 use Rattle.pg_commands.specs.declared.which.Which.{Which}
 use Rattle.pg_commands.specs.declared.which.Which.TheVariants as which_of
 use Rattle.pg_commands.specs.declared.which.Listed.{Listed}
@@ -21,3 +24,18 @@ abbrev pub listed : Listed → placed.Listed
 listed listed_as.New = placed.New
 listed listed_as.Disabled = placed.Disabled
 listed listed_as.Only = placed.Only
+
+abbrev pub command : Command → placed.Command
+command (its.Game t) = placed.game (told token t)
+command (its.Text w t) = placed.text (which w) (told token t)
+command (its.World t) = placed.world (told token t)
+command (its.Level t) = placed.level (told token t)
+command (its.Statement t) = placed.statement (told statement t)
+command (its.Tactics l t) = placed.tactics (listed l) (told names t)
+command (its.Theorems l t) = placed.theorems (listed l) (told names t)
+command (its.Dependency t) = placed.dependency (told (λ v. links v.items) t)
+command (its.Function t) = placed.function (told function t)
+command (its.Constant t) = placed.constant (told constant t)
+command (its.Predicate t) = placed.predicate (told predicate t)
+command its.Passed = placed.passed
+command its.NoCommand = placed.no_command

@@ -1,11 +1,13 @@
 //! The commands of a game text: which of its lines are passed over, and how the other tokens are cut into commands.
 #![tactic(auto)]
 
+mod command;
 mod kind;
 mod lines;
 mod piece;
 mod which;
 
+pub use command::{Command, command_of};
 pub use kind::{begins_passed_line, is_command, is_passed};
 pub use lines::standing;
 pub use piece::{Piece, first_piece};
