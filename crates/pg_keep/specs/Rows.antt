@@ -1,5 +1,5 @@
 -- The rows of a class as plain data, and those of one player in order.
-use Rattle.std.specs.Prelude.{ℕ, suc, ◌≤◌, nat_le, Bool, List, [], ◌∷◌, map, length, if◌then◌else◌, string_bytes}
+use Rattle.std.specs.Prelude.{ℕ, suc, ◌≤◌, nat_le, Bool, List, [], ◌∷◌, length, if◌then◌else◌, string_bytes}
 use Rattle.std.specs.List.{filter, insert}
 use Rattle.std.specs.Str.{bytes_eq}
 use Rattle.pg_keep.specs.declared.row.Row.{Row}

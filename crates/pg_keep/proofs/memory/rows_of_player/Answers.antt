@@ -1,8 +1,7 @@
-use Rattle.std.proofs.Common.{◌≡◌, ◌≤◌, ◌<◌, ◌+◌, ◌-◌, ℕ, true, map, drop, length, get_or, refl, sym, arith, rules}
+use Rattle.std.proofs.Common.{◌≡◌, ◌<◌, ◌+◌, ◌-◌, true, map, length, get_or, arith, rules}
 use Rattle.std.specs.Result.{is_ok}
 use Rattle.std.specs.Str.{bytes_eq}
-use Rattle.std.specs.List.{insert}
-use Rattle.pg_keep.specs.Rows.{entry_of, place_of, rows_of}
+use Rattle.pg_keep.specs.Rows.{entry_of, place_of}
 use Rattle.pg_keep.proofs.Places.{placed-own}
 use Rattle.pg_keep.proofs.memory.rows_of_player.Goals as goal
 
@@ -15,6 +14,8 @@ loop-left-preserved-in_ok-insert c =
     let same : entry_of c.in_ok-copied.field-0 ≡ entry_of c.index-rows-left.result = search rules in
     let next : c.loop-left.left ≡ c.loop-left.left - 1 + 1 = omega arith in
     let lt : c.loop-left.left - 1 < length c.args.rows.now = omega arith in
-    let at : get_or c.args.rows.now (c.loop-left.left - 1) c.index-rows-left.result ≡ c.index-rows-left.result = search rules in
-    (omega arith, placed-own c.args.player.now c.args.rows.now c.loop-left.found.items c.insert.new.self.items (c.loop-left.left - 1) c.loop-left.left
-     c.place_for-place.result c.index-rows-left.result c.in_ok-copied.field-0 c.index-rows-left.result c.loop-left.invariant.1 next lt at own where-is same items)
+    let at : get_or c.args.rows.now (c.loop-left.left - 1) c.index-rows-left.result ≡ c.index-rows-left.result = search rules in (
+      omega arith,
+      placed-own c.args.player.now c.args.rows.now c.loop-left.found.items c.insert.new.self.items (c.loop-left.left - 1) c.loop-left.left
+          c.place_for-place.result c.index-rows-left.result c.in_ok-copied.field-0 c.index-rows-left.result c.loop-left.invariant.1 next lt at own where-is same items,
+    )
