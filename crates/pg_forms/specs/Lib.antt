@@ -1,4 +1,5 @@
 pub mod Equations
 pub mod Kinds
+pub mod Links
 pub mod Taken
 pub mod View

@@ -1,5 +1,5 @@
 // Tokens and runs of tokens at the front of others. Each function looks at a token once.
-ghost use Rattle.std.specs.Prelude.{◌≡◌, ◌≤◌, ◌∷◌, [], length, MatchOption};
+ghost use Rattle.std.specs.Prelude.{◌≡◌, ◌≤◌, ◌<◌, IfOk, ◌∷◌, [], length, MatchOption};
 ghost use Rattle.pg_base.specs.Tokens.{word};
 ghost use Rattle.pg_script.specs.Marks.{place};
 ghost use Rattle.pg_script.specs.View.{words};
@@ -52,7 +52,8 @@ pub(crate) fn token_taken<'t, 'a>(
     end: u32,
     tokens: &'t [Token<'a>],
 ) -> Result<(Token<'a>, &'t [Token<'a>]), u32>
-    ensures { token_taken (fits kind) end (words tokens.now) ≡ first_taken result }
+    ensures taken { token_taken (fits kind) end (words tokens.now) ≡ first_taken result }
+    ensures shorter { IfOk result (λ p. length p.1.now < length tokens.now) }
 {
     let Some((token, rest)) = split_first(tokens) else {
         return Err(end);
@@ -229,4 +230,10 @@ pub(crate) fn block_taken<'t, 'a>(
         return Err(end);
     };
     Ok(span_taken(block_length(first.column, behind) + 1, end, tokens))
+}
+
+/// The tokens that are left to read.
+#[derive(Clone, Copy)]
+pub(crate) struct Left<'t, 'a> {
+    pub(crate) tokens: &'t [Token<'a>],
 }
