@@ -1,6 +1,6 @@
 -- Links are told one after the other.
 use Rattle.std.proofs.Common.{◌≡◌, ◌∙◌, ℕ, Bool, true, false, List, [], ◌∷◌, ◌++◌, Option, None, Some, if◌then◌else◌, refl, ap, sym, append_assoc, map}
-use Rattle.std.proofs.lemmas.List.{map-append}
+use Rattle.std.proofs.lemmas.List.{map-append, append-nil}
 use Rattle.std.specs.Borrow.{Bor}
 use Rattle.pg_base.specs.declared.token.Token.{Token}
 use Rattle.pg_base.specs.Tokens.{Word, word}

@@ -1,3 +1,4 @@
+pub mod Binders
 pub mod Equations
 pub mod Kinds
 pub mod Links

@@ -6,6 +6,7 @@ mod declared;
 mod kind;
 mod link;
 mod parts;
+mod statement;
 mod take;
 
 pub use declared::{constant_told, function_told, predicate_told};
@@ -15,4 +16,5 @@ pub use parts::{
     BinderText, ConstantText, Equation, FunctionText, Link, PredicateText, Span, StatementText,
     Told,
 };
+pub use statement::statement_told;
 pub use take::{names_told, one_token};

@@ -6,7 +6,7 @@ ghost use Rattle.pg_script.specs.View.{words};
 ghost use Rattle.pg_gametext.specs.Forms.{ended, token_taken, one_token, names_length, names_taken, names_told, length_before, part_taken, length_of_hypothesis, hypothesis_taken, block_taken, ends_block};
 ghost use Rattle.pg_forms.specs.Kinds.{fits};
 ghost use Rattle.pg_forms.specs.View.{told, token, names};
-ghost use Rattle.pg_forms.specs.Taken.{first_taken, names_view, part_of, part_behind, block_behind};
+ghost use Rattle.pg_forms.specs.Taken.{first_taken, stuck_at, names_view, part_of, part_behind, block_behind};
 
 use crate::kind::Kind;
 use crate::parts::{Span, Told};
@@ -44,6 +44,16 @@ pub(crate) fn ended(tokens: &[Token<'_>]) -> Option<u32>
 {
     let (first, _) = split_first(tokens)?;
     Some(first.at)
+}
+
+/// An error at the first of these tokens.
+pub(crate) fn end_at(tokens: &[Token<'_>]) -> Result<(), u32>
+    ensures { stuck_at result ≡ ended (words tokens.now) }
+{
+    match ended(tokens) {
+        Some(at) => Err(at),
+        None => Ok(()),
+    }
 }
 
 /// A token of a kind and those after it, or the place where another token or the end stands.

@@ -6,9 +6,9 @@ use Rattle.pg_forms.specs.View.{link}
 use Rattle.pg_forms.specs.Links.{with_links}
 use Rattle.pg_forms.proofs.link.links_after.Given as goal
 
-abbrev pub invariant-loop-is_last : goal.invariant-loop-is_last
-invariant-loop-is_last l =
+abbrev pub invariant-loop-before : goal.invariant-loop-before
+invariant-loop-before l =
     with_links (map link l.value.items) (links_after l.some l.end (word l.before) (words l.left.tokens.now)) ≡ links_after false l.end (word l.first) (words l.tokens)
 
-abbrev pub decreases-loop-is_last : goal.decreases-loop-is_last
-decreases-loop-is_last l = length l.left.tokens.now
+abbrev pub decreases-loop-before : goal.decreases-loop-before
+decreases-loop-before l = length l.left.tokens.now
