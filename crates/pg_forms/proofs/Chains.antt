@@ -6,7 +6,7 @@ use Rattle.pg_base.specs.declared.token.Token.{Token}
 use Rattle.pg_base.specs.Tokens.{Word, word}
 use Rattle.pg_script.specs.View.{words}
 use Rattle.pg_gametext.specs.Commands.{is_plain}
-use Rattle.pg_gametext.specs.Forms.{Taken, Told, Link, with_link, links_after, is_arrow}
+use Rattle.pg_gametext.specs.Forms.{Taken, Told, Link, with_link, links_after, links_told, is_arrow, token_taken}
 use Rattle.pg_forms.specs.declared.parts.Link.{Link as RustLink}
 use Rattle.pg_forms.specs.View.{link}
 use Rattle.pg_forms.specs.Taken.{first_taken}
@@ -70,3 +70,18 @@ pub links_done : (some : Bool) (end : ℕ) (a : Word) (ws : List Word) (ls : Lis
     → with_links ls (links_after some end a ws) ≡ all → are_ended some ws ≡ true → all ≡ record { value = ls; stuck = None }
 links_done some end a ws ls all inv last =
     sym inv ∙ ap (with_links ls) (links_end some end a ws last) ∙ ap (λ zs. record { value = zs; stuck = None }) (append-nil ls)
+
+links_from : ℕ → Taken (Option Word) → Told (List Link)
+links_from end t = elim t.value [ None ↦ record { value = []; stuck = t.stuck } | Some a ↦ links_after false end a t.rest ]
+
+begun : (end : ℕ) (a : Word) (ws : List Word) (plain : Bool)
+    → (if plain then links_after false end a ws else record { value = []; stuck = Some a.at }) ≡ links_from end (if plain then record { value = Some a; stuck = None; rest = ws } else record { value = None; stuck = Some a.at; rest = [] })
+unfolding links_from
+begun end a ws true = refl
+begun end a ws false = refl
+
+-- the links of tokens that begin with a world
+pub links_begun : (end : ℕ) (ws rest : List Word) (a : Word) → token_taken is_plain end ws ≡ record { value = Some a; stuck = None; rest = rest } → links_told end ws ≡ links_after false end a rest
+unfolding links_from
+links_begun end [] rest a is = ap (links_from end) is
+links_begun end (w ∷ ws) rest a is = begun end w ws (is_plain w) ∙ ap (links_from end) is

@@ -1,10 +1,9 @@
 -- The parts of a statement that are read one after the other.
-use Rattle.std.specs.Prelude.{ℕ, List, [], ◌∷◌, ◌++◌, map, Option, Some, None, option_map, Result, Ok, Err, if◌then◌else◌}
+use Rattle.std.specs.Prelude.{ℕ, Bool, List, [], ◌∷◌, ◌++◌, map, Option, Some, None, option_map, Result, Ok, Err, if◌then◌else◌}
 use Rattle.std.specs.Borrow.{Bor}
 use Rattle.pg_base.specs.declared.token.Token.{Token}
 use Rattle.pg_base.specs.Tokens.{Word}
 use Rattle.pg_script.specs.View.{words}
-use Rattle.pg_gametext.specs.Commands.{is_plain, is_text}
 use Rattle.pg_gametext.specs.Forms.{Taken, Told, BinderText as Binder, StatementText, is_open, names_taken, binders_stuck, with_binder, binder_closed, binder_named}
 use Rattle.pg_forms.specs.declared.parts.BinderText.{BinderText}
 use Rattle.pg_forms.specs.declared.statement.Turn.{Turn}
@@ -12,15 +11,10 @@ use Rattle.pg_forms.specs.declared.statement.Turn.TheVariants.{NoBinder, Stuck, 
 use Rattle.pg_forms.specs.declared.statement.Claim.{Claim}
 use Rattle.pg_forms.specs.View.{binder, part}
 
--- without a text at the front
-abbrev pub without_text : List Word → List Word
-without_text [] = []
-without_text (w ∷ ws) = if is_text w then ws else w ∷ ws
-
--- a name at the front, or none
-abbrev pub named_taken : List Word → Taken (Option Word)
-named_taken [] = record { value = None; stuck = None; rest = [] }
-named_taken (w ∷ ws) = if is_plain w then record { value = Some w; stuck = None; rest = ws } else record { value = None; stuck = None; rest = w ∷ ws }
+-- a token of a kind at the front, or none
+abbrev pub optional_taken : (Word → Bool) → List Word → Taken (Option Word)
+optional_taken good [] = record { value = None; stuck = None; rest = [] }
+optional_taken good (w ∷ ws) = if good w then record { value = Some w; stuck = None; rest = ws } else record { value = None; stuck = None; rest = w ∷ ws }
 
 -- what is told of binders, of which these tokens are the first; more tells of what stands behind the first
 abbrev pub Told_on : Type 0

@@ -5,7 +5,8 @@ ghost use Rattle.pg_script.specs.View.{words};
 ghost use Rattle.pg_gametext.specs.Forms.{Taken, BinderText as Binder, binder_named, binder_typed, hypothesis_named, names_taken, binders_taken, statement_told, statement_binders};
 ghost use Rattle.pg_forms.specs.View.{told, statement, binder};
 ghost use Rattle.pg_forms.specs.Taken.{taken_behind, stuck_at, token_behind};
-ghost use Rattle.pg_forms.specs.Binders.{binder_at, turned, opened, closed, with_claim, without_text, named_taken};
+ghost use Rattle.pg_forms.specs.Binders.{binder_at, turned, closed, with_claim, optional_taken};
+ghost use Rattle.pg_forms.specs.Kinds.{fits};
 
 use crate::kind::Kind;
 use crate::parts::{BinderText, Span, StatementText, Told};
@@ -47,7 +48,8 @@ pub fn statement_told<'t, 'a>(
 ) -> Result<Told<StatementText<'t, 'a>>, AllocError>
     ensures { IfOk result (λ t. statement_told end (words tokens.now) ≡ told statement t) }
 {
-    let (name, rest) = name_taken(without_text(tokens));
+    let (_, rest) = optional_taken(Kind::Text, tokens);
+    let (name, rest) = optional_taken(Kind::Plain, rest);
     let binders = binders_taken(alloc, end, rest)?;
     let claim = claim_told(end, binders.rest);
     Ok(Told {
@@ -61,22 +63,15 @@ pub fn statement_told<'t, 'a>(
     })
 }
 
-/// The tokens behind the text at the front, if there is one.
-fn without_text<'t, 'a>(tokens: &'t [Token<'a>]) -> &'t [Token<'a>]
-    ensures { words result.now ≡ without_text (words tokens.now) }
+/// The token of a kind at the front, if there is one, and the tokens behind it.
+fn optional_taken<'t, 'a>(
+    kind: Kind,
+    tokens: &'t [Token<'a>],
+) -> (Option<Token<'a>>, &'t [Token<'a>])
+    ensures { optional_taken (fits kind) (words tokens.now) ≡ token_behind result }
 {
     match split_first(tokens) {
-        Some((first, rest)) if Kind::Text.fits(&first) => rest,
-        _ => tokens,
-    }
-}
-
-/// The name at the front, if there is one, and the tokens behind it.
-fn name_taken<'t, 'a>(tokens: &'t [Token<'a>]) -> (Option<Token<'a>>, &'t [Token<'a>])
-    ensures { named_taken (words tokens.now) ≡ token_behind result }
-{
-    match split_first(tokens) {
-        Some((first, rest)) if Kind::Plain.fits(&first) => (Some(first), rest),
+        Some((first, rest)) if kind.fits(&first) => (Some(first), rest),
         _ => (None, tokens),
     }
 }
@@ -129,15 +124,15 @@ fn binders_taken<'t, 'a>(
 fn binder_taken<'t, 'a>(end: u32, tokens: &'t [Token<'a>]) -> Turn<'t, 'a>
     ensures { (more : List Word → Taken (List Binder)) → binder_at end (words tokens.now) more ≡ turned (words tokens.now) more result }
 {
-    match split_first(tokens) {
-        Some((first, behind)) if Kind::Open.fits(&first) => binder_opened(end, behind),
-        _ => Turn::NoBinder,
+    match token_taken(Kind::Open, end, tokens) {
+        Ok((_, behind)) => binder_opened(end, behind),
+        Err(_) => Turn::NoBinder,
     }
 }
 
 /// The binder behind its opening parenthesis.
 fn binder_opened<'t, 'a>(end: u32, tokens: &'t [Token<'a>]) -> Turn<'t, 'a>
-    ensures { (more : List Word → Taken (List Binder)) → binder_named end (names_taken end (words tokens.now)) more ≡ opened more result }
+    ensures { (ws : List Word) (more : List Word → Taken (List Binder)) → binder_named end (names_taken end (words tokens.now)) more ≡ turned ws more result }
 {
     match binder_named(end, tokens) {
         Ok((binder, rest)) => match token_taken(Kind::Close, end, rest) {
@@ -168,9 +163,9 @@ fn binder_typed<'t, 'a>(
 ) -> Result<(BinderText<'t, 'a>, &'t [Token<'a>]), u32>
     ensures { (more : List Word → Taken (List Binder)) → binder_typed end (words names.now) more (words tokens.now) ≡ closed end more result }
 {
-    match split_first(tokens) {
-        Some((first, rest)) if Kind::Nat.fits(&first) => Ok((BinderText::Variables(names), rest)),
-        _ => hypothesis_named(end, names, tokens),
+    match token_taken(Kind::Nat, end, tokens) {
+        Ok((_, rest)) => Ok((BinderText::Variables(names), rest)),
+        Err(_) => hypothesis_named(end, names, tokens),
     }
 }
 
