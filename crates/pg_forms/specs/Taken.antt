@@ -1,5 +1,5 @@
 -- What was taken of some tokens, as the definitions say it.
-use Rattle.std.specs.Prelude.{ℕ, List, [], Option, Some, None, Result, Ok, Err, take, drop, Bool, ◌||◌, if◌then◌else◌}
+use Rattle.std.specs.Prelude.{ℕ, List, [], Option, Some, None, option_map, Result, Ok, Err, take, drop, Bool, ◌||◌, if◌then◌else◌}
 use Rattle.std.specs.Borrow.{Bor}
 use Rattle.pg_base.specs.declared.token.Token.{Token}
 use Rattle.pg_base.specs.Tokens.{Word, word}
@@ -81,3 +81,7 @@ body_at end (Err at) = record { value = None; stuck = Some at }
 abbrev pub body_view : Result Span ℕ → Told (Option Part)
 body_view (Ok s) = record { value = Some (part s); stuck = None }
 body_view (Err at) = record { value = None; stuck = Some at }
+
+-- a token or none, and the tokens behind it
+abbrev pub token_behind : Option Token × Bor (List Token) → Taken (Option Word)
+token_behind p = record { value = option_map word p.0; stuck = None; rest = words p.1.now }

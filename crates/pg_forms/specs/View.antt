@@ -1,6 +1,7 @@
 -- The plain data that the parts of commands stand for.
-use Rattle.std.specs.Prelude.{List, map, Option, option_map}
+use Rattle.std.specs.Prelude.{List, map, Vec, Option, option_map}
 use Rattle.std.specs.Borrow.{Bor}
+use Rattle.std.specs.declared.alloc.Global.{Global}
 use Rattle.pg_base.specs.declared.token.Token.{Token}
 use Rattle.pg_base.specs.Tokens.{Word, word}
 use Rattle.pg_script.specs.Data.{Part}
@@ -33,8 +34,8 @@ names tokens = words tokens.now
 abbrev pub link : Link → forms.Link
 link l = record { before = word l.before; after = word l.after }
 
-abbrev pub links : List Link → List forms.Link
-links ls = map link ls
+abbrev pub links : Vec Link Global → List forms.Link
+links ls = map link ls.items
 
 abbrev pub equation : Equation → forms.Equation
 equation e = record { name = word e.name; says = option_map part e.says }

@@ -2,14 +2,14 @@
 ghost use Rattle.std.specs.Prelude.{◌≡◌, ◌≤◌, length, None, option_map};
 ghost use Rattle.pg_base.specs.Tokens.{word};
 ghost use Rattle.pg_script.specs.View.{words};
-ghost use Rattle.pg_gametext.specs.Forms.{ended, are_few, at_most_two, begins_open, parameters_behind, parameters_taken, equation_taken, function_told, constant_told, predicate_told};
+ghost use Rattle.pg_gametext.specs.Forms.{are_few, at_most_two, begins_open, parameters_behind, parameters_taken, equation_taken, function_told, constant_told, predicate_told};
 ghost use Rattle.pg_forms.specs.View.{told, part, equation as equation_of, function, constant, predicate};
-ghost use Rattle.pg_forms.specs.Taken.{taken_behind, stuck_at, as_told, parameters_at_close, parameters_or_none, no_constant, function_of, predicate_of, body_at, body_view};
+ghost use Rattle.pg_forms.specs.Taken.{taken_behind, as_told, parameters_at_close, parameters_or_none, no_constant, function_of, predicate_of, body_at, body_view};
 ghost use Rattle.pg_forms.specs.Equations.{both, equations_at};
 
 use crate::kind::Kind;
 use crate::parts::{ConstantText, Equation, FunctionText, PredicateText, Span, Told};
-use crate::take::{ended, names_length, none_of, part_taken, place, split_first, token_taken};
+use crate::take::{end_at, names_length, none_of, part_taken, place, split_first, token_taken};
 use pg_base::Token;
 
 /// Parameters, and the tokens behind their parenthesis, or the place where that or a parameter is missing.
@@ -169,16 +169,6 @@ fn read_constant<'t, 'a>(
     let (name, rest) = token_taken(Kind::Plain, end, rest)?;
     text.equation_name = Some(name);
     end_at(rest)
-}
-
-/// An error at the first of these tokens.
-fn end_at(tokens: &[Token<'_>]) -> Result<(), u32>
-    ensures { stuck_at result ≡ ended (words tokens.now) }
-{
-    match ended(tokens) {
-        Some(at) => Err(at),
-        None => Ok(()),
-    }
 }
 
 // ---- parameters

@@ -1,12 +1,12 @@
 // Tokens and runs of tokens at the front of others. Each function looks at a token once.
-ghost use Rattle.std.specs.Prelude.{◌≡◌, ◌≤◌, ◌∷◌, [], length, MatchOption};
+ghost use Rattle.std.specs.Prelude.{◌≡◌, ◌≤◌, ◌<◌, IfOk, ◌∷◌, [], length, MatchOption};
 ghost use Rattle.pg_base.specs.Tokens.{word};
 ghost use Rattle.pg_script.specs.Marks.{place};
 ghost use Rattle.pg_script.specs.View.{words};
 ghost use Rattle.pg_gametext.specs.Forms.{ended, token_taken, one_token, names_length, names_taken, names_told, length_before, part_taken, length_of_hypothesis, hypothesis_taken, block_taken, ends_block};
 ghost use Rattle.pg_forms.specs.Kinds.{fits};
 ghost use Rattle.pg_forms.specs.View.{told, token, names};
-ghost use Rattle.pg_forms.specs.Taken.{first_taken, names_view, part_of, part_behind, block_behind};
+ghost use Rattle.pg_forms.specs.Taken.{first_taken, stuck_at, names_view, part_of, part_behind, block_behind};
 
 use crate::kind::Kind;
 use crate::parts::{Span, Told};
@@ -46,13 +46,24 @@ pub(crate) fn ended(tokens: &[Token<'_>]) -> Option<u32>
     Some(first.at)
 }
 
+/// An error at the first of these tokens.
+pub(crate) fn end_at(tokens: &[Token<'_>]) -> Result<(), u32>
+    ensures { stuck_at result ≡ ended (words tokens.now) }
+{
+    match ended(tokens) {
+        Some(at) => Err(at),
+        None => Ok(()),
+    }
+}
+
 /// A token of a kind and those after it, or the place where another token or the end stands.
 pub(crate) fn token_taken<'t, 'a>(
     kind: Kind,
     end: u32,
     tokens: &'t [Token<'a>],
 ) -> Result<(Token<'a>, &'t [Token<'a>]), u32>
-    ensures { token_taken (fits kind) end (words tokens.now) ≡ first_taken result }
+    ensures taken { token_taken (fits kind) end (words tokens.now) ≡ first_taken result }
+    ensures shorter { IfOk result (λ p. length p.1.now < length tokens.now) }
 {
     let Some((token, rest)) = split_first(tokens) else {
         return Err(end);
@@ -229,4 +240,10 @@ pub(crate) fn block_taken<'t, 'a>(
         return Err(end);
     };
     Ok(span_taken(block_length(first.column, behind) + 1, end, tokens))
+}
+
+/// The tokens that are left to read.
+#[derive(Clone, Copy)]
+pub(crate) struct Left<'t, 'a> {
+    pub(crate) tokens: &'t [Token<'a>],
 }

@@ -8,4 +8,4 @@ use Rattle.pg_forms.proofs.declared.predicate_told.Goals as goal
 
 pub returns-in-Ok : goal.returns-in-Ok
 returns-in-Ok c =
-    ap (predicate_named c.args.end) (c.token_taken.ensures ∙ ap first_taken c.in-Ok.is) ∙ predicate_begun (word c.in-Ok.name) c.args.end (words c.in-Ok.rest.now) ∙ c.predicate_named.ensures
+    ap (predicate_named c.args.end) (c.token_taken.ensures.taken ∙ ap first_taken c.in-Ok.is) ∙ predicate_begun (word c.in-Ok.name) c.args.end (words c.in-Ok.rest.now) ∙ c.predicate_named.ensures
