@@ -1,5 +1,5 @@
 -- Texts and worlds, as plain data.
-use Rattle.std.specs.Prelude.{◌≡◌, ℕ, zero, suc, ◌+◌, Bool, true, false, List, [], ◌∷◌, ◌++◌, Option, Some, None, if◌then◌else◌}
+use Rattle.std.specs.Prelude.{◌≡◌, ℕ, zero, suc, ◌+◌, Bool, true, false, ◌||◌, List, [], ◌∷◌, ◌++◌, Option, Some, None, if◌then◌else◌}
 use Rattle.std.specs.Str.{bytes_eq}
 use Rattle.std.specs.Option.{option_or}
 use Rattle.pg_logic.specs.Declarations.{Name}
@@ -72,7 +72,7 @@ changed_at change (suc i) (w ∷ ws) = w ∷ changed_at change i ws
 
 abbrev pub has_world : Name → List Held → Bool
 has_world x [] = false
-has_world x (w ∷ ws) = if bytes_eq x w.name then true else has_world x ws
+has_world x (w ∷ ws) = bytes_eq x w.name || has_world x ws
 
 -- the worlds with one of this name last, where there is none
 abbrev pub with_world : Name → List Held → List Held
