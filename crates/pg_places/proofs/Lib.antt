@@ -1,2 +1,5 @@
 pub mod Lists
 pub mod Steps
+pub mod Seen
+pub mod Digits
+pub mod Named

@@ -1,5 +1,6 @@
 // The names of moves.
-ghost use Rattle.std.specs.Prelude.{◌≡◌};
+ghost use Rattle.std.specs.Prelude.{◌≡◌, ◌∷◌, []};
+ghost use Rattle.pg_base.specs.Tokens.{word};
 ghost use Rattle.std.specs.Str.{bytes_eq};
 ghost use Rattle.std.specs.List.{list_any};
 ghost use Rattle.pg_faults.specs.View.{found};
@@ -18,17 +19,22 @@ pub(crate) fn move_fault(names: &[Token<'_>]) -> Option<Fault>
 {
     let mut first = None;
     for name in names {
-        if !is_move(name.text) {
-            first = sooner(
-                first,
-                Some(Fault {
-                    at: name.at,
-                    kind: Kind::Unknown,
-                }),
-            );
-        }
+        first = sooner(first, name_fault(name));
     }
     first
+}
+
+/// The fault of one name that is to be a move.
+fn name_fault(name: &Token<'_>) -> Option<Fault>
+    ensures { found result ≡ text.least (move_faults (word name.now ∷ [])) }
+{
+    if is_move(name.text) {
+        return None;
+    }
+    Some(Fault {
+        at: name.at,
+        kind: Kind::Unknown,
+    })
 }
 
 /// Whether this is the word of a move.

@@ -1,5 +1,6 @@
 // Worlds and their names.
 ghost use Rattle.std.specs.Prelude.{◌≡◌, ◌<◌, IfOk, OnErr, MatchOption, false, string_bytes};
+ghost use Rattle.std.specs.List.{list_all};
 ghost use Rattle.pg_gametext.specs.Before.{is_world_letter, is_world_name};
 ghost use Rattle.pg_gametext.specs.Faults.{level_limit};
 ghost use Rattle.pg_commands.specs.View.{which};
@@ -26,10 +27,17 @@ pub(crate) fn is_world_name(name: &[u8]) -> bool
 {
     match name.split_first() {
         Some((first, rest)) => {
-            first.is_ascii_alphabetic() && rest.iter().all(|b| is_world_letter(*b)) && rest.len() < 32
+            first.is_ascii_alphabetic() && are_world_letters(rest) && rest.len() < 32
         }
         None => false,
     }
+}
+
+/// Letters, digits and `_` alone.
+fn are_world_letters(text: &[u8]) -> bool
+    ensures { result ≡ list_all is_world_letter text.now }
+{
+    text.iter().all(|letter| is_world_letter(*letter))
 }
 
 /// A letter, a digit or `_`.
@@ -88,7 +96,8 @@ pub(crate) fn add_level_at(worlds: &mut [World], place: usize)
     requires { read_at its_levels 0 place (helds worlds.old) < level_limit }
     ensures { helds worlds.new ≡ changed_at one_more_level place (helds worlds.old) }
 {
-    if let Some(world) = worlds.get_mut(place) {
+    if place < worlds.len() {
+        let world = &mut worlds[place];
         world.levels += 1;
     }
 }
@@ -97,7 +106,8 @@ pub(crate) fn add_level_at(worlds: &mut [World], place: usize)
 pub(crate) fn add_text_at(worlds: &mut [World], place: usize, kind: Which, at: u32)
     ensures { helds worlds.new ≡ changed_at (with_text (which kind) at) place (helds worlds.old) }
 {
-    if let Some(world) = worlds.get_mut(place) {
+    if place < worlds.len() {
+        let world = &mut worlds[place];
         world.texts = world.texts.with(kind, at);
     }
 }
