@@ -3,3 +3,4 @@ pub mod Steps
 pub mod Seen
 pub mod Digits
 pub mod Named
+pub mod Told

@@ -1,5 +1,5 @@
 -- The worlds in memory, as they are seen by place and by name.
-use Rattle.std.proofs.Common.{◌≡◌, ◌∙◌, ℕ, zero, suc, ◌+◌, ◌<◌, ◌≤◌, Bool, true, false, not, ◌||◌, cond, List, [], ◌∷◌, ◌++◌, length, map, refl, sym, ap, subst, arith, Option, Some, None, string_bytes, nat_lt}
+use Rattle.std.proofs.Common.{◌≡◌, ◌∙◌, ℕ, zero, suc, ◌+◌, ◌<◌, ◌≤◌, Bool, true, false, not, ◌||◌, cond, List, [], ◌∷◌, ◌++◌, ◌-◌, length, length-append, map, if◌then◌else◌, refl, sym, ap, subst, arith, Option, Some, None, string_bytes, nat_lt}
 use Rattle.std.specs.Prelude.{slice_index_or, slice_set, MatchOption, position}
 use Rattle.std.specs.List.{position_or_len}
 use Rattle.std.specs.Str.{bytes_eq}
@@ -38,41 +38,16 @@ set-past f (w ∷ ws) (suc i) l = ap (λ (hs : List Held). held w ∷ hs) (set-p
 abbrev pub is_called : Name → World → Bool
 is_called x w = bytes_eq x (string_bytes w.name)
 
-place_more : (x : Name) (w : World) (ws : List World) (b : Bool) (p : ℕ) → is_called x w ≡ b → (p < length ws → IsPlaceOf x p (helds ws)) →
-    cond (not b) (1 + p) 0 < suc (length ws) → IsPlaceOf x (cond (not b) (1 + p) 0) (held w ∷ helds ws)
-place_more x w ws true p e more l = e
-place_more x w ws false p e more l = subst (λ k. IsPlaceOf x k (held w ∷ helds ws)) (let same : suc p ≡ 1 + p = omega arith in same) (e, more (omega arith))
+pub place-at : (x : Name) (ws : List World) (i : ℕ) (d : World) → i < length ws → ((k : ℕ) (e : World) → k < i → is_called x (slice_index_or ws k e) ≡ false) →
+    is_called x (slice_index_or ws i d) ≡ true → IsPlaceOf x i (helds ws)
+place-at x [] i d l before here = absurd (omega arith)
+place-at x (w ∷ ws) zero d l before here = here
+place-at x (w ∷ ws) (suc i) d l before here =
+    (before 0 d (omega arith), place-at x ws i d (omega arith) (λ k e less. before (suc k) e (omega arith)) here)
 
-place_here : (x : Name) (ws : List World) → position_or_len (is_called x) ws < length ws → IsPlaceOf x (position_or_len (is_called x) ws) (helds ws)
-place_here x [] l = absurd (omega arith)
-place_here x (w ∷ ws) l = place_more x w ws (is_called x w) (position_or_len (is_called x) ws) refl (place_here x ws) l
-
-none_more : (x : Name) (w : World) (ws : List World) (b : Bool) (p : ℕ) → (length ws ≤ p → has_world x (helds ws) ≡ false) → suc (length ws) ≤ cond (not b) (1 + p) 0 →
-    (b || has_world x (helds ws)) ≡ false
-none_more x w ws true p more l = absurd (omega arith)
-none_more x w ws false p more l = more (omega arith)
-
-none_here : (x : Name) (ws : List World) → length ws ≤ position_or_len (is_called x) ws → has_world x (helds ws) ≡ false
-none_here x [] l = refl
-none_here x (w ∷ ws) l = none_more x w ws (is_called x w) (position_or_len (is_called x) ws) (none_here x ws) l
-
-less_of : (a b : ℕ) → nat_lt a b ≡ true → a < b
-less_of a b e = grind (arith, nat_tests)
-
-not_less : (a b : ℕ) → nat_lt a b ≡ false → b ≤ a
-not_less a b e = grind (arith, nat_tests)
-
-pub place-first : (x : Name) (ws : List World) (o : Option ℕ) → o ≡ position (is_called x) ws → MatchOption o (has_world x (helds ws) ≡ false) (λ i. IsPlaceOf x i (helds ws))
-place-first x ws o e =
-    subst
-      (λ (r : Option ℕ). MatchOption r (has_world x (helds ws) ≡ false) (λ i. IsPlaceOf x i (helds ws)))
-      (sym e)
-      (chosen (nat_lt (position_or_len (is_called x) ws) (length ws)) refl)
-  where
-    chosen : (b : Bool) → nat_lt (position_or_len (is_called x) ws) (length ws) ≡ b →
-        MatchOption (cond b (Some (position_or_len (is_called x) ws)) None) (has_world x (helds ws) ≡ false) (λ i. IsPlaceOf x i (helds ws))
-    chosen true l = place_here x ws (less_of (position_or_len (is_called x) ws) (length ws) l)
-    chosen false l = none_here x ws (not_less (position_or_len (is_called x) ws) (length ws) l)
+pub none-called : (x : Name) (ws : List World) → ((k : ℕ) (e : World) → k < length ws → is_called x (slice_index_or ws k e) ≡ false) → has_world x (helds ws) ≡ false
+none-called x [] all = refl
+none-called x (w ∷ ws) all = rw (all 0 w (omega arith)) (none-called x ws (λ k e less. all (suc k) e (omega arith)))
 
 -- ---- one more
 
@@ -102,3 +77,19 @@ place-last x (k ∷ hs) h none e = at_test (bytes_eq x k.name) refl none (place-
 pub length-helds : (ws : List World) → length (helds ws) ≡ length ws
 length-helds [] = refl
 length-helds (w ∷ ws) = ap suc (length-helds ws)
+
+pub seen-place : (x y : Name) (ws vs : List World) (i : ℕ) → x ≡ y → ws ≡ vs → IsPlaceOf x i (helds ws) → IsPlaceOf y i (helds vs)
+seen-place x y ws vs i xs same p = subst (λ (us : List World). IsPlaceOf y i (helds us)) same (subst (λ (z : Name). IsPlaceOf z i (helds ws)) xs p)
+
+-- where there is a world of the name, none is added
+pub with-known : (x : Name) (i : ℕ) (hs : List Held) → IsPlaceOf x i hs → hs ≡ with_world x hs
+with-known x i hs p = sym (ap (λ (b : Bool). if b then hs else hs ++ new_world x ∷ []) (has-place x i hs p))
+
+-- where there is none, the one that is added is the first
+pub place-pushed : (x y : Name) (ws us vs : List World) (w : World) (n : ℕ) → x ≡ y → us ≡ ws → has_world x (helds us) ≡ false → vs ≡ ws ++ w ∷ [] → string_bytes w.name ≡ y →
+    n ≡ length vs → IsPlaceOf y (n - 1) (helds vs)
+place-pushed x y ws us vs w n xs same none pushed called ns =
+    let hs : helds vs ≡ helds ws ++ held w ∷ [] = ap helds pushed ∙ helds-push ws w in
+    let count : n - 1 ≡ length (helds ws) = omega (arith, ns, ap length pushed, length-append ws (w ∷ []), length-helds ws) in
+    let no_world : has_world y (helds ws) ≡ false = sym (ap (λ (z : Name). has_world z (helds us)) xs ∙ ap (λ (zs : List World). has_world y (helds zs)) same) ∙ none in
+    subst (λ k. IsPlaceOf y k (helds vs)) (sym count) (subst (λ (ks : List Held). IsPlaceOf y (length (helds ws)) ks) (sym hs) (place-last y (helds ws) (held w) no_world called))

@@ -403,3 +403,76 @@ stands_world_text t v i outside some before at end _ is s = absurd is
 pub follows-world_text : (t : There) (v : Which) (at i : ℕ) → t.in_level ≡ false → t.current ≡ Some i → Follows t (with_world_text v at i t) at (IsText v)
 follows-world_text t v at i outside some before c e is s =
     subst (λ n. Stands (with_world_text v n i t) (c ∷ before)) e (stands_world_text t v i outside some before c.at c.end c.command is s)
+
+-- ---- the same where the parts are equal to what they must be
+
+pub follows-world_as : (t : There) (name : Word) (at i : ℕ) (x : Name) (hs : List Held) → x ≡ text_of name → hs ≡ with_world x t.worlds → IsPlaceOf x i hs →
+    Follows t (record { worlds = hs; current = Some i; in_level = false; lacks_statement = false; statement = None; has_level = t.has_level; game = t.game; level = t.level }) at (IsWorldCalled name)
+follows-world_as t name at i x hs xs same p =
+    let all : hs ≡ with_world (text_of name) t.worlds = same ∙ ap (λ (y : Name). with_world y t.worlds) xs in
+    subst
+      (λ (ws : List Held).
+        Follows t
+          (record { worlds = ws; current = Some i; in_level = false; lacks_statement = false; statement = None; has_level = t.has_level; game = t.game; level = t.level })
+          at
+          (IsWorldCalled name))
+      (sym all)
+      (follows-world t name at i (subst (λ (ws : List Held). IsPlaceOf (text_of name) i ws) all (subst (λ (y : Name). IsPlaceOf y i hs) xs p)))
+
+pub follows-level_as : (t : There) (at : ℕ) (hs : List Held) (ts : Texts) → HasRoom t → hs ≡ counted_at t.current one_more_level t.worlds → ts ≡ no_texts →
+    Follows t (record { worlds = hs; current = t.current; in_level = true; lacks_statement = true; statement = None; has_level = true; game = t.game; level = ts }) at IsLevel
+follows-level_as t at hs ts room same none =
+    subst
+      (λ (ws : List Held).
+        Follows t (record { worlds = ws; current = t.current; in_level = true; lacks_statement = true; statement = None; has_level = true; game = t.game; level = ts }) at IsLevel)
+      (sym same)
+      (subst
+        (λ (l : Texts).
+          Follows t
+            (record {
+              worlds = counted_at t.current one_more_level t.worlds;
+              current = t.current;
+              in_level = true;
+              lacks_statement = true;
+              statement = None;
+              has_level = true;
+              game = t.game;
+              level = l;
+            })
+            at
+            IsLevel)
+        (sym none)
+        (follows-level t at room))
+
+pub follows-world_text_as : (t : There) (v : Which) (at i : ℕ) (hs : List Held) → t.in_level ≡ false → t.current ≡ Some i → hs ≡ changed_at (with_text v at) i t.worlds →
+    Follows t
+      (record {
+        worlds = hs;
+        current = t.current;
+        in_level = t.in_level;
+        lacks_statement = t.lacks_statement;
+        statement = t.statement;
+        has_level = t.has_level;
+        game = t.game;
+        level = t.level;
+      })
+      at
+      (IsText v)
+follows-world_text_as t v at i hs outside some same =
+    subst
+      (λ (ws : List Held).
+        Follows t
+          (record {
+            worlds = ws;
+            current = t.current;
+            in_level = t.in_level;
+            lacks_statement = t.lacks_statement;
+            statement = t.statement;
+            has_level = t.has_level;
+            game = t.game;
+            level = t.level;
+          })
+          at
+          (IsText v))
+      (sym same)
+      (follows-world_text t v at i outside some)

@@ -9,7 +9,6 @@ ghost use Rattle.pg_gametext.specs.Checks as text;
 ghost use Rattle.pg_gametext.specs.Faults.{least};
 ghost use Rattle.pg_gametext.specs.Game.{end_faults};
 ghost use Rattle.pg_gametext.specs.Placed.{Placed};
-ghost use Rattle.pg_places.specs.Held.{has_world};
 ghost use Rattle.pg_places.specs.There.{Follows, HasRoom, IsLevel, IsStatement, IsText, IsWorldCalled, OthersLaw, Stands, levels_here, texts_here};
 ghost use Rattle.pg_places.specs.View.{there};
 
@@ -17,16 +16,16 @@ use crate::moves::move_fault;
 use crate::number::number_fault;
 use crate::single::{clash, one_more, out_of_place};
 use crate::texts::Texts;
-use crate::world::{World, add_level_at, add_text_at, is_world_name, levels_at, place_for, place_of, texts_at};
+use crate::world::{World, add_level, add_text_at, has_world, is_world_name, levels_at, place_for, texts_at};
 use pg_base::{Token, Wanted, decoded};
 use pg_commands::Which;
 use pg_faults::{Fault, Kind, LimitName, sooner};
 use std::alloc::{AllocError, Global};
 
 /// How many worlds a game may have.
-const MOST_WORLDS: u32 = 64;
+const MOST_WORLDS: u16 = 64;
 /// How many levels a world may have.
-const MOST_LEVELS: u32 = 64;
+const MOST_LEVELS: u16 = 64;
 
 /// What the commands before a place of a game text say of worlds, levels, texts and statements.
 #[derive(Drop)]
@@ -117,12 +116,13 @@ impl Places {
         ensures first { (before : List Placed) → Stands (there self.now) before → found result ≡ least (text.level_faults before at (option_map (λ t. word t.now) number.entry)) }
         ensures room { (before : List Placed) → Stands (there self.now) before → result ≡ None → HasRoom (there self.now) }
     {
-        let levels = u32::from(self.level_number());
+        let levels = self.level_number();
         let misplaced = self.lacks_statement || self.current.is_none();
-        let limit = one_more(LimitName::Levels, MOST_LEVELS, levels, at);
+        let too_many = one_more(LimitName::Levels, MOST_LEVELS, usize::from(levels), at);
+        let gap = number_fault(u32::from(levels) + 1, number);
         sooner(
             out_of_place(misplaced, at, Wanted::Command),
-            sooner(limit, number_fault(levels + 1, number)),
+            sooner(too_many, gap),
         )
     }
 
@@ -185,9 +185,7 @@ impl Places {
         requires { HasRoom (there self.old) }
         ensures { Follows (there self.old) (there self.new) at IsLevel }
     {
-        if let Some(place) = self.current {
-            add_level_at(self.worlds.as_mut_slice(), place);
-        }
+        add_level(self.worlds.as_mut_slice(), self.current);
         self.in_level = true;
         self.lacks_statement = true;
         self.statement = None;
@@ -219,13 +217,13 @@ impl Places {
                 kind: Kind::Expected(Wanted::Name),
             }));
         }
-        if place_of(self.worlds.as_slice(), meant.as_str()).is_some() {
+        if has_world(self.worlds.as_slice(), meant.as_str()) {
             return Ok(None);
         }
         Ok(one_more(
             LimitName::Worlds,
             MOST_WORLDS,
-            self.worlds.len() as u32,
+            self.worlds.len(),
             at,
         ))
     }

@@ -1,5 +1,5 @@
 // Single faults: of a place, of a text that stands twice, of one too many.
-ghost use Rattle.std.specs.Prelude.{◌≡◌, ◌<◌};
+ghost use Rattle.std.specs.Prelude.{◌≡◌};
 ghost use Rattle.pg_faults.specs.View.{found, limit};
 ghost use Rattle.pg_gametext.specs.Checks.{clash_fault, out_of_place};
 ghost use Rattle.pg_gametext.specs.Faults as text;
@@ -35,14 +35,13 @@ pub(crate) fn clash(at: u32, first: Option<u32>) -> Option<Fault>
 }
 
 /// The fault of one more, where as many stand already as may.
-pub(crate) fn one_more(what: LimitName, most: u32, standing: u32, at: u32) -> Option<Fault>
-    requires { most < 1000 }
+pub(crate) fn one_more(what: LimitName, most: u16, standing: usize, at: u32) -> Option<Fault>
     ensures { found result ≡ text.least (text.one_more (limit what) most standing at) }
 {
-    if standing == most {
+    if standing == usize::from(most) {
         Some(Fault {
             at,
-            kind: Kind::Limit(what, most + 1),
+            kind: Kind::Limit(what, u32::from(most) + 1),
         })
     } else {
         None

@@ -5,6 +5,7 @@ ghost use Rattle.pg_gametext.specs.Before.{is_world_letter, is_world_name};
 ghost use Rattle.pg_gametext.specs.Faults.{level_limit};
 ghost use Rattle.pg_commands.specs.View.{which};
 ghost use Rattle.pg_places.specs.Held.{IsPlaceOf, changed_at, has_world, its_levels, its_texts, no_texts, one_more_level, read_at, with_text, with_world};
+ghost use Rattle.pg_places.specs.There.{counted_at, levels_at};
 ghost use Rattle.pg_places.specs.View.{helds};
 
 use crate::texts::Texts;
@@ -51,7 +52,19 @@ fn is_world_letter(letter: u8) -> bool
 pub(crate) fn place_of(worlds: &[World], name: &str) -> Option<usize>
     ensures { MatchOption result (has_world name.now (helds worlds.now) ≡ false) (λ i. IsPlaceOf name.now i (helds worlds.now)) }
 {
-    worlds.iter().position(|world| name == world.name.as_str())
+    for (place, world) in worlds.iter().enumerate() {
+        if name == world.name.as_str() {
+            return Some(place);
+        }
+    }
+    None
+}
+
+/// Whether there is a world of this name.
+pub(crate) fn has_world(worlds: &[World], name: &str) -> bool
+    ensures { result ≡ has_world name.now (helds worlds.now) }
+{
+    place_of(worlds, name).is_some()
 }
 
 /// The place of the first world of this name, which is added where there is none. Without memory nothing is added.
@@ -91,8 +104,18 @@ pub(crate) fn texts_at(worlds: &[World], place: usize) -> Texts
     }
 }
 
+/// Adds a level to the world at this place, where there is one.
+pub(crate) fn add_level(worlds: &mut [World], current: Option<usize>)
+    requires { levels_at current (helds worlds.old) < level_limit }
+    ensures { helds worlds.new ≡ counted_at current one_more_level (helds worlds.old) }
+{
+    if let Some(place) = current {
+        add_level_at(worlds, place);
+    }
+}
+
 /// Adds a level to the world at this place.
-pub(crate) fn add_level_at(worlds: &mut [World], place: usize)
+fn add_level_at(worlds: &mut [World], place: usize)
     requires { read_at its_levels 0 place (helds worlds.old) < level_limit }
     ensures { helds worlds.new ≡ changed_at one_more_level place (helds worlds.old) }
 {
