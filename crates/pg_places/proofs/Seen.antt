@@ -1,5 +1,5 @@
 -- The worlds in memory, as they are seen by place and by name.
-use Rattle.std.proofs.Common.{◌≡◌, ◌∙◌, ℕ, zero, suc, ◌+◌, ◌<◌, ◌≤◌, Bool, true, false, not, ◌||◌, cond, List, [], ◌∷◌, ◌++◌, ◌-◌, length, length-append, map, if◌then◌else◌, refl, sym, ap, subst, arith, Option, Some, None, string_bytes, nat_lt}
+use Rattle.std.proofs.Common.{◌≡◌, ◌∙◌, ℕ, zero, suc, ◌+◌, ◌<◌, ◌≤◌, Bool, true, false, not, ◌||◌, cond, List, [], ◌∷◌, ◌++◌, ◌-◌, length, map, if◌then◌else◌, refl, sym, ap, subst, arith, Option, Some, None, string_bytes, nat_lt}
 use Rattle.std.specs.Prelude.{slice_index_or, slice_set, MatchOption, position}
 use Rattle.std.specs.List.{position_or_len}
 use Rattle.std.specs.Str.{bytes_eq}
@@ -87,9 +87,13 @@ with-known x i hs p = sym (ap (λ (b : Bool). if b then hs else hs ++ new_world 
 
 -- where there is none, the one that is added is the first
 pub place-pushed : (x y : Name) (ws us vs : List World) (w : World) (n : ℕ) → x ≡ y → us ≡ ws → has_world x (helds us) ≡ false → vs ≡ ws ++ w ∷ [] → string_bytes w.name ≡ y →
-    n ≡ length vs → IsPlaceOf y (n - 1) (helds vs)
+    n ≡ length us + 1 → IsPlaceOf y (n - 1) (helds vs)
 place-pushed x y ws us vs w n xs same none pushed called ns =
     let hs : helds vs ≡ helds ws ++ held w ∷ [] = ap helds pushed ∙ helds-push ws w in
-    let count : n - 1 ≡ length (helds ws) = omega (arith, ns, ap length pushed, length-append ws (w ∷ []), length-helds ws) in
+    let count : n - 1 ≡ length (helds ws) = omega (arith, ns, ap length same, length-helds ws) in
     let no_world : has_world y (helds ws) ≡ false = sym (ap (λ (z : Name). has_world z (helds us)) xs ∙ ap (λ (zs : List World). has_world y (helds zs)) same) ∙ none in
     subst (λ k. IsPlaceOf y k (helds vs)) (sym count) (subst (λ (ks : List Held). IsPlaceOf y (length (helds ws)) ks) (sym hs) (place-last y (helds ws) (held w) no_world called))
+
+-- how many worlds are seen
+pub count-seen : (ws us : List World) (n m : ℕ) → us ≡ ws → length us ≡ m → n ≡ m → n ≡ length (helds ws)
+count-seen ws us n m same ls ns = ns ∙ sym ls ∙ ap length same ∙ sym (length-helds ws)

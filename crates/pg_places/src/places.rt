@@ -1,5 +1,6 @@
 // What is kept of the commands before a place, and the faults of a command there.
 ghost use Rattle.std.specs.Prelude.{◌≡◌, ◌++◌, ◌||◌, List, [], IfOk, OnOk, OnErr, None, Some, not, option_map};
+ghost use Rattle.std.specs.Option.{is_some};
 ghost use Rattle.pg_base.specs.Tokens.{word};
 ghost use Rattle.pg_script.specs.View.{words};
 ghost use Rattle.pg_commands.specs.View.{which};
@@ -117,7 +118,7 @@ impl Places {
         ensures room { (before : List Placed) → Stands (there self.now) before → result ≡ None → HasRoom (there self.now) }
     {
         let levels = self.level_number();
-        let misplaced = self.lacks_statement || self.current.is_none();
+        let misplaced = self.has_no_place_for_level();
         let too_many = one_more(LimitName::Levels, MOST_LEVELS, usize::from(levels), at);
         let gap = number_fault(u32::from(levels) + 1, number);
         sooner(
@@ -226,6 +227,13 @@ impl Places {
             self.worlds.len(),
             at,
         ))
+    }
+
+    /// Whether a `Level` may not stand here: a statement is lacking, or there is no world.
+    fn has_no_place_for_level(&self) -> bool
+        ensures { result ≡ (self.now.lacks_statement || not (is_some self.now.current)) }
+    {
+        self.lacks_statement || self.current.is_none()
     }
 
     /// Whether such a command here is passed over: a world's conclusion is.

@@ -1,4 +1,4 @@
-use Rattle.std.proofs.Common.{◌≡◌, ◌∙◌, refl, string_bytes}
+use Rattle.std.proofs.Common.{◌≡◌, ◌∙◌, ◌+◌, refl, sym, ap, string_bytes}
 use Rattle.pg_places.specs.Held.{IsPlaceOf}
 use Rattle.pg_places.specs.View.{helds}
 use Rattle.pg_places.proofs.Seen.{seen-place, with-known, place-pushed}
@@ -13,4 +13,5 @@ returns-in-Some-clause-worlds c =
 pub returns-clause-place : goal.returns-clause-place
 returns-clause-place c =
     place-pushed c.as_str.result.now (string_bytes c.args.name) c.args.worlds.now.items c.as_slice.result.now c.push.new.self.items _ c.len.result
-      c.as_str.ensures.value c.as_slice.ensures.value c.in_default.ensures c.in_ok-push.ensures.items refl c.len.ensures
+      c.as_str.ensures.value c.as_slice.ensures.value c.in_default.ensures c.in_ok-push.ensures.items refl
+      (c.len.ensures ∙ c.in_ok-push.ensures.len ∙ ap (λ n. n + 1) (sym c.as_slice.ensures.len))
