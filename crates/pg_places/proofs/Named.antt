@@ -1,5 +1,5 @@
 -- Names of moves, and the faults of those that are none.
-use Rattle.std.proofs.Common.{◌≡◌, ◌∙◌, ℕ, ◌<◌, Bool, true, false, ◌+◌, ◌||◌, not, List, [], ◌∷◌, ◌++◌, length, take, get_or, refl, sym, ap, subst, rules, arith, append_assoc, Option, Some, None, map, lit<}
+use Rattle.std.proofs.Common.{◌≡◌, ◌∙◌, ℕ, ◌<◌, Bool, true, false, ◌+◌, not, List, [], ◌∷◌, ◌++◌, length, take, get_or, refl, sym, ap, append_assoc, Option, Some, None, lit<}
 use Rattle.std.specs.Prelude.{IfSome}
 use Rattle.std.specs.Option.{is_some}
 use Rattle.std.specs.List.{list_any}
@@ -53,10 +53,10 @@ pub has-move : (x : List ℕ) (o : Option TacticName) → IfSome o (λ t. word_o
 has-move x (Some t) e all = sym (any-move (λ s. bytes_eq x (word_of s)) t ((bytes_eq-Decides x (word_of t)).1 (sym e)))
 has-move x None e all =
     sym
-      (no-move
-        (λ s. bytes_eq x (word_of s))
-        (λ s. false_unless (bytes_eq x (word_of s)) (λ same. (let found = all s (sym ((bytes_eq-Decides x (word_of s)).0 same)) in cc)))
-        moves)
+    (no-move
+    (λ s. bytes_eq x (word_of s))
+    (λ s. false_unless (bytes_eq x (word_of s)) (λ same. (let found = all s (sym ((bytes_eq-Decides x (word_of s)).0 same)) in cc)))
+    moves)
 
 -- ---- faults
 
@@ -76,5 +76,5 @@ pub least-more : LeastLaw → (ts : List Token) (i : ℕ) (d : Token) → i < le
 least-more law ts i d l =
     sym (law (move_faults (words (take i ts))) (move_faults (word (get_or ts i d) ∷ [])))
     ∙ ap least
-      (sym (faults_append (words (take i ts)) (word (get_or ts i d) ∷ []))
-      ∙ ap move_faults (sym (words_append (take i ts) (get_or ts i d ∷ [])) ∙ ap words (sym (take_more ts i d l))))
+    (sym (faults_append (words (take i ts)) (word (get_or ts i d) ∷ []))
+    ∙ ap move_faults (sym (words_append (take i ts) (get_or ts i d ∷ [])) ∙ ap words (sym (take_more ts i d l))))

@@ -1,9 +1,7 @@
 -- The worlds in memory, as they are seen by place and by name.
-use Rattle.std.proofs.Common.{◌≡◌, ◌∙◌, ℕ, zero, suc, ◌+◌, ◌<◌, ◌≤◌, Bool, true, false, not, ◌||◌, cond, List, [], ◌∷◌, ◌++◌, ◌-◌, length, map, if◌then◌else◌, refl, sym, ap, subst, arith, Option, Some, None, string_bytes, nat_lt}
-use Rattle.std.specs.Prelude.{slice_index_or, slice_set, MatchOption, position}
-use Rattle.std.specs.List.{position_or_len}
+use Rattle.std.proofs.Common.{◌≡◌, ◌∙◌, ℕ, zero, suc, ◌+◌, ◌<◌, ◌≤◌, Bool, true, false, ◌||◌, List, [], ◌∷◌, ◌++◌, ◌-◌, length, if◌then◌else◌, refl, sym, ap, subst, arith, string_bytes}
+use Rattle.std.specs.Prelude.{slice_index_or, slice_set}
 use Rattle.std.specs.Str.{bytes_eq}
-use Rattle.std.proofs.lemmas.Bool.Decides.{nat_tests}
 use Rattle.pg_logic.specs.Declarations.{Name}
 use Rattle.pg_places.specs.declared.texts.Texts.{Texts}
 use Rattle.pg_places.specs.declared.world.World.{World}

@@ -1,5 +1,5 @@
 -- What one command more changes.
-use Rattle.std.proofs.Common.{◌≡◌, ◌∙◌, ℕ, zero, suc, ◌+◌, ◌<◌, ◌≤◌, ◌==◌, Bool, true, false, not, ◌&&◌, List, [], ◌∷◌, ◌++◌, refl, sym, ap, subst, arith, Option, Some, None, if◌then◌else◌, add-one}
+use Rattle.std.proofs.Common.{◌≡◌, ◌∙◌, ℕ, suc, ◌<◌, ◌≤◌, ◌==◌, Bool, true, false, not, ◌&&◌, List, [], ◌∷◌, ◌++◌, refl, sym, ap, subst, arith, Option, Some, None, if◌then◌else◌, add-one}
 use Rattle.std.specs.Str.{bytes_eq}
 use Rattle.std.specs.Option.{option_or}
 use Rattle.std.specs.List.{list_any}
@@ -8,12 +8,12 @@ use Rattle.std.proofs.lemmas.Slice.Eq.{bytes_eq-Decides}
 use Rattle.pg_base.specs.Tokens.{Word}
 use Rattle.pg_logic.specs.Declarations.{Name}
 use Rattle.pg_gametext.specs.Faults.{level_limit}
-use Rattle.pg_gametext.specs.Placed.{Which, Title, Introduction, Conclusion, Command, game, text, world, level, statement, tactics, theorems, dependency, function, constant, predicate, passed, no_command, Placed}
-use Rattle.pg_gametext.specs.Before.{text_of, world_named, with_name, worlds, current_world, in_level, lacks_statement, statement_place, level_count, levels_of, same_name, same_which, same_holder, Holder, holder, world_holder, of_game, of_world, of_level, text_place}
+use Rattle.pg_gametext.specs.Placed.{Which, Title, Introduction, Conclusion, Command, text, world, level, statement, Placed}
+use Rattle.pg_gametext.specs.Before.{text_of, world_named, with_name, worlds, current_world, in_level, level_count, same_name, same_which, same_holder, Holder, holder, world_holder, of_game, of_world, of_level, text_place}
 use Rattle.pg_places.specs.declared.texts.Texts.{Texts}
-use Rattle.pg_places.specs.Held.{Held, place_of, with_place, with_text, new_world, no_texts, one_more_level, names_of, IsPlaceOf, read_named, read_at, its_levels, its_texts, changed_at, with_world}
+use Rattle.pg_places.specs.Held.{Held, place_of, with_place, with_text, no_texts, one_more_level, names_of, IsPlaceOf, read_named, read_at, its_levels, its_texts, changed_at, with_world}
 use Rattle.pg_places.specs.There.{There, Stands, IsCurrent, counted_at, levels_at, HasRoom, IsWorldCalled, IsLevel, IsStatement, IsText, IsOther, OthersLaw, Follows}
-use Rattle.pg_places.proofs.Lists.{same_test, test_refl, names-changed, place-changed, read-place, read-left, read-changed, read-with, names-with}
+use Rattle.pg_places.proofs.Lists.{names-changed, place-changed, read-place, read-left, read-changed, read-with, names-with}
 
 -- ---- what is there before all commands
 
@@ -83,9 +83,9 @@ stands_world : (t : There) (name : Word) (i : ℕ) → IsPlaceOf (text_of name) 
     Stands (with_world_there (text_of name) i t) (record { at = at; command = command; end = end } ∷ before)
 stands_world t name i p before at end (world told) is s = record {
   names =
-    names-with (text_of name) t.worlds
-    ∙ ap (λ (ns : List Name). if list_any (bytes_eq (text_of name)) ns then ns else ns ++ text_of name ∷ []) s.names
-    ∙ sym (ap (λ (v : Option Word). with_name (world_named v) (worlds before)) is);
+      names-with (text_of name) t.worlds
+      ∙ ap (λ (ns : List Name). if list_any (bytes_eq (text_of name)) ns then ns else ns ++ text_of name ∷ []) s.names
+      ∙ sym (ap (λ (v : Option Word). with_name (world_named v) (worlds before)) is);
   current = subst (λ (v : Option Word). IsCurrent (with_world (text_of name) t.worlds) (Some i) (world_named v)) (sym is) p;
   in_level = refl;
   lacks = refl;
@@ -159,10 +159,10 @@ stands_level t room before at end (level told) is s = record {
   statement = refl;
   count = sym (ap not (differ_if_more 0 (suc (level_count before)) (omega arith)));
   levels =
-    λ y. levels_counted y t.current (current_world before) t.worlds s.current
-        ∙ ap (λ (n : ℕ). if same_name (Some y) (current_world before) then suc n else n) (s.levels y);
+      λ y. levels_counted y t.current (current_world before) t.worlds s.current
+      ∙ ap (λ (n : ℕ). if same_name (Some y) (current_world before) then suc n else n) (s.levels y);
   few =
-    λ y. subst
+      λ y. subst
       (λ n. n ≤ level_limit)
       (sym (levels_counted y t.current (current_world before) t.worlds s.current))
       (few_counted y t.current (current_world before) t.worlds s.current room (s.few y));
@@ -295,10 +295,10 @@ stands_level_text t v inside before at end (text u told) is s =
       few = s.few;
       game_texts = λ w. noted w u of_game before at t.game t.game (s.game_texts w) (rw here refl);
       world_texts =
-        λ w y. noted w u (of_world y) before at (read_named its_texts no_texts y t.worlds) (read_named its_texts no_texts y t.worlds) (s.world_texts w y) (rw here refl);
+          λ w y. noted w u (of_world y) before at (read_named its_texts no_texts y t.worlds) (read_named its_texts no_texts y t.worlds) (s.world_texts w y) (rw here refl);
       level_texts =
-        λ w. noted w u (of_level (level_count before)) before at t.level (with_place v at t.level) (s.level_texts w)
-            (rw (here, same_number (level_count before), is) refl);
+          λ w. noted w u (of_level (level_count before)) before at t.level (with_place v at t.level) (s.level_texts w)
+          (rw (here, same_number (level_count before), is) refl);
     }
 stands_level_text t v inside before at end _ is s = absurd is
 
@@ -339,7 +339,7 @@ stands_game_text t v outside none before at end (text u told) is s =
       few = s.few;
       game_texts = λ w. noted w u of_game before at t.game (with_place v at t.game) (s.game_texts w) (rw (here, is) refl);
       world_texts =
-        λ w y. noted w u (of_world y) before at (read_named its_texts no_texts y t.worlds) (read_named its_texts no_texts y t.worlds) (s.world_texts w y) (rw here refl);
+          λ w y. noted w u (of_world y) before at (read_named its_texts no_texts y t.worlds) (read_named its_texts no_texts y t.worlds) (s.world_texts w y) (rw here refl);
       level_texts = λ w. noted w u (of_level (level_count before)) before at t.level t.level (s.level_texts w) (rw here refl);
     }
 stands_game_text t v outside none before at end _ is s = absurd is
@@ -391,7 +391,7 @@ stands_world_text t v i outside some before at end (text u told) is s =
       few = λ y. subst (λ n. n ≤ level_limit) (sym (read-left its_levels 0 (with_text v at) (λ w. refl) (λ w. refl) y i t.worlds)) (s.few y);
       game_texts = λ w. noted w u of_game before at t.game t.game (s.game_texts w) (rw here refl);
       world_texts =
-        λ w y. noted w u (of_world y) before at
+          λ w y. noted w u (of_world y) before at
           (read_named its_texts no_texts y t.worlds)
           (read_named its_texts no_texts y (changed_at (with_text v at) i t.worlds))
           (s.world_texts w y)
@@ -411,68 +411,68 @@ pub follows-world_as : (t : There) (name : Word) (at i : ℕ) (x : Name) (hs : L
 follows-world_as t name at i x hs xs same p =
     let all : hs ≡ with_world (text_of name) t.worlds = same ∙ ap (λ (y : Name). with_world y t.worlds) xs in
     subst
-      (λ (ws : List Held).
-        Follows t
-          (record { worlds = ws; current = Some i; in_level = false; lacks_statement = false; statement = None; has_level = t.has_level; game = t.game; level = t.level })
-          at
-          (IsWorldCalled name))
-      (sym all)
-      (follows-world t name at i (subst (λ (ws : List Held). IsPlaceOf (text_of name) i ws) all (subst (λ (y : Name). IsPlaceOf y i hs) xs p)))
+    (λ (ws : List Held).
+    Follows t
+    (record { worlds = ws; current = Some i; in_level = false; lacks_statement = false; statement = None; has_level = t.has_level; game = t.game; level = t.level })
+    at
+    (IsWorldCalled name))
+    (sym all)
+    (follows-world t name at i (subst (λ (ws : List Held). IsPlaceOf (text_of name) i ws) all (subst (λ (y : Name). IsPlaceOf y i hs) xs p)))
 
 pub follows-level_as : (t : There) (at : ℕ) (hs : List Held) (ts : Texts) → HasRoom t → hs ≡ counted_at t.current one_more_level t.worlds → ts ≡ no_texts →
     Follows t (record { worlds = hs; current = t.current; in_level = true; lacks_statement = true; statement = None; has_level = true; game = t.game; level = ts }) at IsLevel
 follows-level_as t at hs ts room same none =
     subst
-      (λ (ws : List Held).
-        Follows t (record { worlds = ws; current = t.current; in_level = true; lacks_statement = true; statement = None; has_level = true; game = t.game; level = ts }) at IsLevel)
-      (sym same)
-      (subst
-        (λ (l : Texts).
-          Follows t
-            (record {
-              worlds = counted_at t.current one_more_level t.worlds;
-              current = t.current;
-              in_level = true;
-              lacks_statement = true;
-              statement = None;
-              has_level = true;
-              game = t.game;
-              level = l;
-            })
-            at
-            IsLevel)
-        (sym none)
-        (follows-level t at room))
+    (λ (ws : List Held).
+    Follows t (record { worlds = ws; current = t.current; in_level = true; lacks_statement = true; statement = None; has_level = true; game = t.game; level = ts }) at IsLevel)
+    (sym same)
+    (subst
+    (λ (l : Texts).
+    Follows t
+    (record {
+      worlds = counted_at t.current one_more_level t.worlds;
+      current = t.current;
+      in_level = true;
+      lacks_statement = true;
+      statement = None;
+      has_level = true;
+      game = t.game;
+      level = l;
+    })
+    at
+    IsLevel)
+    (sym none)
+    (follows-level t at room))
 
 pub follows-world_text_as : (t : There) (v : Which) (at i : ℕ) (hs : List Held) → t.in_level ≡ false → t.current ≡ Some i → hs ≡ changed_at (with_text v at) i t.worlds →
     Follows t
-      (record {
-        worlds = hs;
-        current = t.current;
-        in_level = t.in_level;
-        lacks_statement = t.lacks_statement;
-        statement = t.statement;
-        has_level = t.has_level;
-        game = t.game;
-        level = t.level;
-      })
-      at
-      (IsText v)
+    (record {
+      worlds = hs;
+      current = t.current;
+      in_level = t.in_level;
+      lacks_statement = t.lacks_statement;
+      statement = t.statement;
+      has_level = t.has_level;
+      game = t.game;
+      level = t.level;
+    })
+    at
+    (IsText v)
 follows-world_text_as t v at i hs outside some same =
     subst
-      (λ (ws : List Held).
-        Follows t
-          (record {
-            worlds = ws;
-            current = t.current;
-            in_level = t.in_level;
-            lacks_statement = t.lacks_statement;
-            statement = t.statement;
-            has_level = t.has_level;
-            game = t.game;
-            level = t.level;
-          })
-          at
-          (IsText v))
-      (sym same)
-      (follows-world_text t v at i outside some)
+    (λ (ws : List Held).
+    Follows t
+    (record {
+      worlds = ws;
+      current = t.current;
+      in_level = t.in_level;
+      lacks_statement = t.lacks_statement;
+      statement = t.statement;
+      has_level = t.has_level;
+      game = t.game;
+      level = t.level;
+    })
+    at
+    (IsText v))
+    (sym same)
+    (follows-world_text t v at i outside some)

@@ -1,5 +1,5 @@
 -- The faults of a command, told from what is kept.
-use Rattle.std.proofs.Common.{◌≡◌, ◌∙◌, ℕ, zero, suc, ◌+◌, ◌<◌, ◌≤◌, ◌≢◌, ◌==◌, Bool, true, false, not, ◌||◌, List, [], ◌∷◌, ◌++◌, length, refl, sym, ap, subst, arith, Option, Some, None, if◌then◌else◌, add-one}
+use Rattle.std.proofs.Common.{◌≡◌, ◌∙◌, ℕ, suc, ◌+◌, ◌≤◌, ◌≢◌, ◌==◌, Bool, true, false, not, ◌||◌, List, [], ◌∷◌, ◌++◌, length, refl, sym, ap, subst, arith, Option, Some, None, if◌then◌else◌, add-one}
 use Rattle.std.specs.Str.{bytes_eq}
 use Rattle.std.specs.List.{list_any}
 use Rattle.std.specs.Option.{is_some}
@@ -9,11 +9,11 @@ use Rattle.pg_base.specs.Tokens.{Word}
 use Rattle.pg_logic.specs.Declarations.{Name}
 use Rattle.pg_gametext.specs.Faults.{Fault, fault, least, fault_if, one_more, level_limit, world_limit, Worlds, Levels, Expected, Limit}
 use Rattle.pg_gametext.specs.Placed.{Which, Command, level, Placed}
-use Rattle.pg_gametext.specs.Before.{text_of, is_world_name, worlds, current_world, in_level, lacks_statement, level_count, levels_of, same_name, Holder, holder, world_holder, of_game, of_world, of_level, counts, text_place}
+use Rattle.pg_gametext.specs.Before.{text_of, is_world_name, worlds, current_world, lacks_statement, level_count, levels_of, holder, world_holder, of_level, counts, text_place}
 use Rattle.pg_gametext.specs.Checks.{clash_fault, out_of_place, number_faults, has_no_world, level_faults, world_faults_of, text_faults}
 use Rattle.pg_faults.specs.View.{sooner}
 use Rattle.pg_faults.specs.Laws.{LeastLaw}
-use Rattle.pg_places.specs.Held.{Held, place_of, no_texts, names_of, IsPlaceOf, read_named, read_at, its_levels, its_texts, has_world}
+use Rattle.pg_places.specs.Held.{Held, place_of, no_texts, names_of, IsPlaceOf, read_named, its_levels, its_texts, has_world}
 use Rattle.pg_places.specs.There.{There, Stands, IsCurrent, levels_at, levels_here, HasRoom, texts_at, texts_here}
 use Rattle.pg_places.specs.declared.texts.Texts.{Texts}
 use Rattle.pg_places.proofs.Lists.{has-names, read-place}
@@ -57,13 +57,13 @@ level-told law t before s at n number a b c ns xs ys zs =
     let m : ℕ = levels_of (current_world before) before in
     let e : n ≡ m = ns ∙ levels-told t before s in
     ap (λ (f : Option Fault). sooner f (sooner b c))
-      (xs
-      ∙ ap (λ (q : Bool). least (out_of_place (q || not (is_some t.current)) at)) s.lacks
-      ∙ ap (λ (q : Bool). least (out_of_place (lacks_statement before || q) at)) (no_world_now t.current (current_world before) t.worlds s.current))
+    (xs
+    ∙ ap (λ (q : Bool). least (out_of_place (q || not (is_some t.current)) at)) s.lacks
+    ∙ ap (λ (q : Bool). least (out_of_place (lacks_statement before || q) at)) (no_world_now t.current (current_world before) t.worlds s.current))
     ∙ ap (λ (f : Option Fault). sooner (least (out_of_place (lacks_statement before || has_no_world (current_world before)) at)) (sooner f c))
-      (ys ∙ ap (λ (k : ℕ). least (one_more Levels level_limit k at)) e)
+    (ys ∙ ap (λ (k : ℕ). least (one_more Levels level_limit k at)) e)
     ∙ ap (λ (f : Option Fault). sooner (least (out_of_place (lacks_statement before || has_no_world (current_world before)) at)) (sooner (least (one_more Levels level_limit m at)) f))
-      (zs ∙ ap (λ (k : ℕ). least (number_faults k number)) (add-one n ∙ ap suc e))
+    (zs ∙ ap (λ (k : ℕ). least (number_faults k number)) (add-one n ∙ ap suc e))
     ∙ ap (sooner (least (out_of_place (lacks_statement before || has_no_world (current_world before)) at))) (sym (law (one_more Levels level_limit m at) (number_faults (suc m) number)))
     ∙ sym (law (out_of_place (lacks_statement before || has_no_world (current_world before)) at) (one_more Levels level_limit m at ++ number_faults (suc m) number))
 
@@ -126,29 +126,29 @@ has-some x ws (Some i) p = sym (has-place x i ws p)
 pub no_name-told : (t : Word) (x : Name) (before : List Placed) (at : ℕ) → x ≡ text_of t → is_world_name x ≡ false → least (fault t.at Expected ∷ []) ≡ least (world_faults_of before at t)
 no_name-told t x before at xs e =
     sym
-      (ap
-        (λ (b : Bool). least (if b then (if list_any (bytes_eq (text_of t)) (worlds before) then [] else one_more Worlds world_limit (length (worlds before)) at) else fault t.at Expected ∷ []))
-        (ap is_world_name (sym xs) ∙ e))
+    (ap
+    (λ (b : Bool). least (if b then (if list_any (bytes_eq (text_of t)) (worlds before) then [] else one_more Worlds world_limit (length (worlds before)) at) else fault t.at Expected ∷ []))
+    (ap is_world_name (sym xs) ∙ e))
 
 name_faults : (t : Word) (x : Name) (before : List Placed) (at : ℕ) → x ≡ text_of t → is_world_name x ≡ true →
     world_faults_of before at t ≡ (if list_any (bytes_eq x) (worlds before) then [] else one_more Worlds world_limit (length (worlds before)) at)
 name_faults t x before at xs e =
     ap
-      (λ (b : Bool). if b then (if list_any (bytes_eq (text_of t)) (worlds before) then [] else one_more Worlds world_limit (length (worlds before)) at) else fault t.at Expected ∷ [])
-      (ap is_world_name (sym xs) ∙ e)
+    (λ (b : Bool). if b then (if list_any (bytes_eq (text_of t)) (worlds before) then [] else one_more Worlds world_limit (length (worlds before)) at) else fault t.at Expected ∷ [])
+    (ap is_world_name (sym xs) ∙ e)
     ∙ ap (λ (y : Name). if list_any (bytes_eq y) (worlds before) then [] else one_more Worlds world_limit (length (worlds before)) at) (sym xs)
 
 pub known_name-told : (t : Word) (x : Name) (k : There) (before : List Placed) → Stands k before → (at : ℕ) → x ≡ text_of t → is_world_name x ≡ true → has_world x k.worlds ≡ true →
     None ≡ least (world_faults_of before at t)
 known_name-told t x k before s at xs e has =
     sym
-      (ap least (name_faults t x before at xs e)
-      ∙ ap (λ (b : Bool). least (if b then [] else one_more Worlds world_limit (length (worlds before)) at)) (sym (known-told x k before s) ∙ has))
+    (ap least (name_faults t x before at xs e)
+    ∙ ap (λ (b : Bool). least (if b then [] else one_more Worlds world_limit (length (worlds before)) at)) (sym (known-told x k before s) ∙ has))
 
 pub new_name-told : (t : Word) (x : Name) (k : There) (before : List Placed) → Stands k before → (at n : ℕ) → x ≡ text_of t → is_world_name x ≡ true → has_world x k.worlds ≡ false →
     n ≡ length k.worlds → least (one_more Worlds world_limit n at) ≡ least (world_faults_of before at t)
 new_name-told t x k before s at n xs e has ns =
     ap (λ (m : ℕ). least (one_more Worlds world_limit m at)) (ns ∙ sym (length_names k.worlds) ∙ ap length s.names)
     ∙ sym
-      (ap least (name_faults t x before at xs e)
-      ∙ ap (λ (b : Bool). least (if b then [] else one_more Worlds world_limit (length (worlds before)) at)) (sym (known-told x k before s) ∙ has))
+    (ap least (name_faults t x before at xs e)
+    ∙ ap (λ (b : Bool). least (if b then [] else one_more Worlds world_limit (length (worlds before)) at)) (sym (known-told x k before s) ∙ has))

@@ -1,11 +1,11 @@
 -- What is kept of the commands before a place, and which commands it stands for.
-use Rattle.std.specs.Prelude.{◌≡◌, ℕ, ◌<◌, ◌≤◌, ◌==◌, Bool, true, false, not, ◌&&◌, ◌||◌, List, [], ◌∷◌, Option, Some, None, if◌then◌else◌}
+use Rattle.std.specs.Prelude.{◌≡◌, ℕ, ◌<◌, ◌≤◌, ◌==◌, Bool, not, List, ◌∷◌, Option, Some, None, if◌then◌else◌}
 use Rattle.pg_base.specs.Tokens.{Word}
 use Rattle.pg_logic.specs.Declarations.{Name}
 use Rattle.pg_gametext.specs.Faults.{level_limit}
-use Rattle.pg_gametext.specs.Placed.{Which, Title, Introduction, Conclusion, Command, game, text, world, level, statement, tactics, theorems, dependency, function, constant, predicate, passed, no_command, Placed}
-use Rattle.pg_gametext.specs.Before.{worlds, current_world, in_level, lacks_statement, statement_place, level_count, levels_of, Holder, of_game, of_world, of_level, text_place}
-use Rattle.pg_places.specs.Held.{Held, place_of, with_place, with_text, no_texts, names_of, IsPlaceOf, read_named, read_at, its_levels, its_texts, changed_at}
+use Rattle.pg_gametext.specs.Placed.{Which, Command, text, world, level, statement, Placed}
+use Rattle.pg_gametext.specs.Before.{worlds, current_world, in_level, lacks_statement, statement_place, level_count, levels_of, of_game, of_world, of_level, text_place}
+use Rattle.pg_places.specs.Held.{Held, place_of, no_texts, names_of, IsPlaceOf, read_named, read_at, its_levels, its_texts, changed_at}
 use Rattle.pg_places.specs.declared.texts.Texts.{Texts}
 
 pub record There : Type 0 where

@@ -17,7 +17,9 @@ use crate::moves::move_fault;
 use crate::number::number_fault;
 use crate::single::{clash, one_more, out_of_place};
 use crate::texts::Texts;
-use crate::world::{World, add_level, add_text_at, has_world, is_world_name, levels_at, place_for, texts_at};
+use crate::world::{
+    World, add_level, add_text_at, has_world, is_world_name, levels_at, place_for, texts_at,
+};
 use pg_base::{Token, Wanted, decoded};
 use pg_commands::Which;
 use pg_faults::{Fault, Kind, LimitName, sooner};
@@ -152,7 +154,11 @@ impl Places {
     pub fn end_fault(&self, end: u32) -> Option<Fault>
         ensures { (before : List Placed) → Stands (there self.now) before → found result ≡ least (end_faults end before) }
     {
-        out_of_place(self.lacks_statement || !self.has_level, end, Wanted::Command)
+        out_of_place(
+            self.lacks_statement || !self.has_level,
+            end,
+            Wanted::Command,
+        )
     }
 
     /// Notes a title, an introduction or a conclusion whose word stands here.
@@ -221,12 +227,7 @@ impl Places {
         if has_world(self.worlds.as_slice(), meant.as_str()) {
             return Ok(None);
         }
-        Ok(one_more(
-            LimitName::Worlds,
-            MOST_WORLDS,
-            self.worlds.len(),
-            at,
-        ))
+        Ok(one_more(LimitName::Worlds, MOST_WORLDS, self.worlds.len(), at))
     }
 
     /// Whether a `Level` may not stand here: a statement is lacking, or there is no world.
@@ -260,5 +261,4 @@ impl Places {
 /// Commands of all other kinds change nothing.
 pub fn others_law()
     ensures { OthersLaw }
-{
-}
+{}

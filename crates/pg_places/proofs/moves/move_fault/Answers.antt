@@ -1,4 +1,4 @@
-use Rattle.std.proofs.Common.{◌≡◌, ◌∙◌, ◌<◌, length, take, get_or, ap, arith}
+use Rattle.std.proofs.Common.{◌∙◌, ◌<◌, length, take, ap, arith}
 use Rattle.pg_gametext.specs.Checks.{move_faults}
 use Rattle.pg_gametext.specs.Faults.{Fault, least}
 use Rattle.pg_faults.specs.View.{found, sooner}

@@ -9,7 +9,7 @@ pub returns-then-place-worlds : goal.returns-then-place-worlds
 returns-then-place-worlds c =
     let old = slice_index_or c.args.worlds.now c.args.place c.index-worlds-place.result in
     set-some (with_text (which c.args.kind) c.args.at) c.args.worlds.now c.args.place _ c.index-worlds-place.result c.if-place-worlds.true
-      (ap (hold (string_bytes old.name) old.levels) c.with-world.ensures)
+    (ap (hold (string_bytes old.name) old.levels) c.with-world.ensures)
 
 pub returns-else-place-worlds : goal.returns-else-place-worlds
 returns-else-place-worlds c = set-past (with_text (which c.args.kind) c.args.at) c.args.worlds.now c.args.place c.if-place-worlds.false

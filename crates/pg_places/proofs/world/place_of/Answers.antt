@@ -1,4 +1,4 @@
-use Rattle.std.proofs.Common.{◌≡◌, ◌<◌, true, length, arith, sym, ◌∙◌, ap, rules, string_bytes}
+use Rattle.std.proofs.Common.{◌≡◌, ◌<◌, true, length, arith, sym, ◌∙◌, ap, string_bytes}
 use Rattle.std.specs.Prelude.{slice_index_or}
 use Rattle.std.specs.Str.{bytes_eq}
 use Rattle.pg_places.specs.declared.world.World.{World}
@@ -13,7 +13,7 @@ returns-then-eq c =
     let d = c.index-worlds-place.result in
     let within : i < length worlds = omega arith in
     let called : is_called x (slice_index_or worlds i d) ≡ true =
-      sym (c.if-eq.ensures ∙ ap (bytes_eq x) (c.as_str.ensures.value ∙ ap (λ (w : World). string_bytes w.name) c.index-worlds-place.is)) in
+    sym (c.if-eq.ensures ∙ ap (bytes_eq x) (c.as_str.ensures.value ∙ ap (λ (w : World). string_bytes w.name) c.index-worlds-place.is)) in
     place-at x worlds i d within c.loop-place.invariant called
 
 pub returns : goal.returns

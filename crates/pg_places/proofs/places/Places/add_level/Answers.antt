@@ -11,7 +11,7 @@ use Rattle.pg_places.proofs.places.Places.add_level.Goals as goal
 pub returns : goal.returns
 returns c =
     follows-level_as (there c.args.self.now) c.args.at (helds (with_items c.args.self.now.worlds c.add_level.new.worlds).items) c.none-self.result c.requires
-      (ap helds (with_items_is c.args.self.now.worlds c.add_level.new.worlds (c.add_level.auto.worlds ∙ c.as_mut_slice.ensures.len))
-      ∙ c.add_level.ensures
-      ∙ ap (λ (ws : List World). counted_at c.args.self.now.current one_more_level (helds ws)) c.as_mut_slice.ensures.value)
-      c.none-self.ensures
+    (ap helds (with_items_is c.args.self.now.worlds c.add_level.new.worlds (c.add_level.auto.worlds ∙ c.as_mut_slice.ensures.len))
+    ∙ c.add_level.ensures
+    ∙ ap (λ (ws : List World). counted_at c.args.self.now.current one_more_level (helds ws)) c.as_mut_slice.ensures.value)
+    c.none-self.ensures
