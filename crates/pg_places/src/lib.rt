@@ -1,12 +1,13 @@
 //! Where in a game text a command stands: worlds, levels, titles and statements before it, and what is wrong with it there.
 #![tactic(auto)]
 
-mod level;
 mod moves;
+mod number;
 mod places;
+mod single;
 mod texts;
 mod world;
 
-pub use moves::move_fault;
-pub use places::{Places, World};
+pub use places::{Places, others_law};
 pub use texts::Texts;
+pub use world::World;

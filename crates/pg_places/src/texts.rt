@@ -1,7 +1,7 @@
 // Where the title, the introduction and the conclusion of something stand.
-ghost use Rattle.std.specs.Prelude.{◌≡◌, None};
+ghost use Rattle.std.specs.Prelude.{◌≡◌};
 ghost use Rattle.pg_commands.specs.View.{which};
-ghost use Rattle.pg_places.specs.There.{place_of, with_place};
+ghost use Rattle.pg_places.specs.Held.{place_of, with_place, no_texts};
 
 use pg_commands::Which;
 
@@ -16,9 +16,7 @@ pub struct Texts {
 impl Texts {
     /// None of them yet.
     pub(crate) fn none() -> Texts
-        ensures { result.title ≡ None }
-        ensures { result.introduction ≡ None }
-        ensures { result.conclusion ≡ None }
+        ensures { result ≡ no_texts }
     {
         Texts {
             title: None,
@@ -38,16 +36,23 @@ impl Texts {
         }
     }
 
-    /// With one of them at this byte, where it did not stand before.
+    /// With one of them at this byte, where it stood nowhere before.
     pub(crate) fn with(self, kind: Which, at: u32) -> Texts
-        ensures { result ≡ with_place (which kind) at self.entry }
+        ensures { result ≡ with_place (which kind) at self }
     {
-        let mut texts = self;
         match kind {
-            Which::Title => texts.title = Some(texts.title.unwrap_or(at)),
-            Which::Introduction => texts.introduction = Some(texts.introduction.unwrap_or(at)),
-            Which::Conclusion => texts.conclusion = Some(texts.conclusion.unwrap_or(at)),
+            Which::Title => Texts {
+                title: self.title.or(Some(at)),
+                ..self
+            },
+            Which::Introduction => Texts {
+                introduction: self.introduction.or(Some(at)),
+                ..self
+            },
+            Which::Conclusion => Texts {
+                conclusion: self.conclusion.or(Some(at)),
+                ..self
+            },
         }
-        texts
     }
 }
