@@ -7,9 +7,10 @@ use crate::kind::{is_command, is_passed};
 use crate::piece::Piece;
 use crate::which::{Listed, Which};
 use pg_base::Token;
-use pg_forms::{ConstantText, FunctionText, Kind, Link, PredicateText, StatementText, Told};
-use pg_forms::{constant_told, function_told, links_told, names_told, one_token, predicate_told};
-use pg_forms::statement_told;
+use pg_forms::{
+    ConstantText, FunctionText, Kind, Link, PredicateText, StatementText, Told, constant_told,
+    function_told, links_told, names_told, one_token, predicate_told, statement_told,
+};
 use std::alloc::{AllocError, Global};
 
 /// A command of a game text, with what was told of its tokens (docs/GAME-TEXT.md, "Whole games").
@@ -46,7 +47,7 @@ pub enum Command<'t, 'a> {
 /// The command that a piece is, with what is told of its tokens: the parts up to the first token with which no such
 /// command goes on. It fails only for want of memory, and takes time linear in the piece.
 pub fn command_of<'t, 'a>(alloc: Global, cut: Piece<'t, 'a>) -> Result<Command<'t, 'a>, AllocError>
-    ensures command { IfOk result (λ c. command c ≡ command_of (piece cut)) }
+    ensures command { IfOk result (λ c. command c ≡ command_of (piece cut.entry)) }
 {
     if !is_command(&cut.word) {
         return Ok(Command::NoCommand);
@@ -59,7 +60,7 @@ pub fn command_of<'t, 'a>(alloc: Global, cut: Piece<'t, 'a>) -> Result<Command<'
 
 /// A command of a game or a level.
 fn word_command<'t, 'a>(alloc: Global, cut: Piece<'t, 'a>) -> Result<Command<'t, 'a>, AllocError>
-    ensures { IfOk result (λ c. command c ≡ word_command (piece cut)) }
+    ensures { IfOk result (λ c. command c ≡ word_command (piece cut.entry)) }
 {
     let Piece { word, body, end } = cut;
     match word.text {
@@ -76,7 +77,7 @@ fn word_command<'t, 'a>(alloc: Global, cut: Piece<'t, 'a>) -> Result<Command<'t,
 
 /// A command of a level.
 fn level_command<'t, 'a>(alloc: Global, cut: Piece<'t, 'a>) -> Result<Command<'t, 'a>, AllocError>
-    ensures { IfOk result (λ c. command c ≡ level_command (piece cut)) }
+    ensures { IfOk result (λ c. command c ≡ level_command (piece cut.entry)) }
 {
     let Piece { word, body, end } = cut;
     match word.text {
