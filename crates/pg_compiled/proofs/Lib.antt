@@ -1,0 +1,5 @@
+mod Available
+mod Numbered
+mod Open
+mod Truth
+mod RowsPlans
