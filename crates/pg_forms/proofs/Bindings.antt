@@ -2,9 +2,8 @@
 use Rattle.std.proofs.Common.{◌≡◌, ◌∙◌, ℕ, suc, ◌-◌, ◌+◌, ◌<◌, Bool, true, false, List, [], ◌∷◌, ◌++◌, length, Option, None, Some, if◌then◌else◌, refl, ap, sym, append_assoc, map, arith}
 use Rattle.std.proofs.lemmas.List.{map-append, append-nil}
 use Rattle.pg_base.specs.Tokens.{Word}
-use Rattle.pg_script.specs.View.{words}
 use Rattle.pg_gametext.specs.Commands.{is_plain, is_text}
-use Rattle.pg_gametext.specs.Forms.{Taken, Told, BinderText as Binder, StatementText, variables, is_open, is_nat, token_taken, names_taken, binder_named, binder_typed, binder_closed, hypothesis_named, with_binder, binders_stuck, binders_taken, statement_name, statement_told, statement_binders}
+use Rattle.pg_gametext.specs.Forms.{Taken, Told, BinderText as Binder, StatementText, variables, is_open, is_nat, token_taken, names_taken, binder_named, binder_typed, binder_closed, hypothesis_named, with_binder, binders_taken, statement_name, statement_told, statement_binders}
 use Rattle.pg_forms.specs.declared.parts.BinderText.{BinderText}
 use Rattle.pg_forms.specs.View.{binder}
 use Rattle.pg_forms.specs.Binders.{Told_on, binder_at, optional_taken, with_binders}

@@ -9,7 +9,6 @@ use Rattle.pg_gametext.specs.Commands.{is_plain}
 use Rattle.pg_gametext.specs.Forms.{Taken, Told, Link, with_link, links_after, links_told, is_arrow, token_taken}
 use Rattle.pg_forms.specs.declared.parts.Link.{Link as RustLink}
 use Rattle.pg_forms.specs.View.{link}
-use Rattle.pg_forms.specs.Taken.{first_taken}
 use Rattle.pg_forms.specs.Links.{are_ended, world_behind, second_world, links_on, with_links}
 
 links_end : (some : Bool) (end : ℕ) (a : Word) (ws : List Word) → are_ended some ws ≡ true → links_after some end a ws ≡ record { value = []; stuck = None }
@@ -26,7 +25,8 @@ two_left : (end : ℕ) (a s b : Word) (ws : List Word) (arrow plain : Bool)
     → (if arrow then (if plain then with_link (record { before = a; after = b }) (links_after true end b ws) else record { value = []; stuck = Some b.at }) else record { value = []; stuck = Some s.at })
     ≡ links_on a end (elim arrow as (λ _. Taken (Option Word)) [
       | true ↦ (if plain then record { value = Some b; stuck = None; rest = ws } else record { value = None; stuck = Some b.at; rest = [] })
-      | false ↦ record { value = None; stuck = Some s.at; rest = [] } ])
+      | false ↦ record { value = None; stuck = Some s.at; rest = [] }
+    ])
 two_left end a s b ws true true = refl
 two_left end a s b ws true false = refl
 two_left end a s b ws false plain = refl
@@ -34,7 +34,8 @@ two_left end a s b ws false plain = refl
 two_taken : (end : ℕ) (s b : Word) (ws : List Word) (arrow : Bool)
     → (elim arrow as (λ _. Taken (Option Word)) [
       | true ↦ (if is_plain b then record { value = Some b; stuck = None; rest = ws } else record { value = None; stuck = Some b.at; rest = [] })
-      | false ↦ record { value = None; stuck = Some s.at; rest = [] } ])
+      | false ↦ record { value = None; stuck = Some s.at; rest = [] }
+    ])
     ≡ world_behind end (if arrow then record { value = Some s; stuck = None; rest = b ∷ ws } else record { value = None; stuck = Some s.at; rest = [] })
 two_taken end s b ws true = refl
 two_taken end s b ws false = refl

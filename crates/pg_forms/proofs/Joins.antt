@@ -18,7 +18,7 @@ assigned p names end v None ws = refl
 assigned p names end v (Some at) ws = refl
 
 cases : (p : Word) (end : ℕ) (ws : List Word) (opens : Bool) →
-   (if opens then predicate_params end p (parameters_taken false end ws) else predicate_assigned p [] end (token_taken is_assign end ws)) ≡ predicate_params end p (if opens then parameters_taken false end ws else record { value = []; stuck = None; rest = ws })
+    (if opens then predicate_params end p (parameters_taken false end ws) else predicate_assigned p [] end (token_taken is_assign end ws)) ≡ predicate_params end p (if opens then parameters_taken false end ws else record { value = []; stuck = None; rest = ws })
 cases p end ws true = refl
 cases p end ws false = refl
 

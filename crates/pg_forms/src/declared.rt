@@ -33,7 +33,9 @@ pub(crate) struct Equations<'t, 'a> {
     at_succ: Option<Equation<'t, 'a>>,
 }
 
-/// The function that these tokens tell: `f (x .. d) | n0 : l0 = r0 | n1 : l1 = r1`.
+/// The function that these tokens tell, as `function_told` of `pg_gametext`. The next command begins at the byte `end`.
+///
+/// `f (x .. d) | n0 : l0 = r0 | n1 : l1 = r1`.
 pub fn function_told<'t, 'a>(end: u32, tokens: &'t [Token<'a>]) -> Told<FunctionText<'t, 'a>>
     ensures { function_told end (words tokens.now) ≡ told function result }
 {
@@ -51,7 +53,9 @@ pub fn function_told<'t, 'a>(end: u32, tokens: &'t [Token<'a>]) -> Told<Function
     }
 }
 
-/// The constant that these tokens tell: `c := term as name`.
+/// The constant that these tokens tell, as `constant_told` of `pg_gametext`. The next command begins at the byte `end`.
+///
+/// `c := term as name`.
 pub fn constant_told<'t, 'a>(end: u32, tokens: &'t [Token<'a>]) -> Told<ConstantText<'t, 'a>>
     ensures { constant_told end (words tokens.now) ≡ told constant result }
 {
@@ -64,7 +68,9 @@ pub fn constant_told<'t, 'a>(end: u32, tokens: &'t [Token<'a>]) -> Told<Constant
     Told { value, stuck }
 }
 
-/// The predicate that these tokens tell: `p (x ..) := formula` or `p := formula`.
+/// The predicate that these tokens tell, as `predicate_told` of `pg_gametext`. The next command begins at the byte `end`.
+///
+/// `p (x ..) := formula` or `p := formula`.
 pub fn predicate_told<'t, 'a>(end: u32, tokens: &'t [Token<'a>]) -> Told<PredicateText<'t, 'a>>
     ensures { predicate_told end (words tokens.now) ≡ told predicate result }
 {
@@ -123,10 +129,7 @@ fn predicate_named<'t, 'a>(
 }
 
 /// The body behind these parameters, if there is one.
-fn body_told<'t, 'a>(
-    end: u32,
-    behind: Result<&'t [Token<'a>], u32>,
-) -> Told<Option<Span<'t, 'a>>>
+fn body_told<'t, 'a>(end: u32, behind: Result<&'t [Token<'a>], u32>) -> Told<Option<Span<'t, 'a>>>
     ensures { body_at end behind.entry ≡ told (option_map part) result }
 {
     match body_of(end, behind) {
@@ -142,10 +145,7 @@ fn body_told<'t, 'a>(
 }
 
 /// The body behind these parameters, or the place where there is none.
-fn body_of<'t, 'a>(
-    end: u32,
-    behind: Result<&'t [Token<'a>], u32>,
-) -> Result<Span<'t, 'a>, u32>
+fn body_of<'t, 'a>(end: u32, behind: Result<&'t [Token<'a>], u32>) -> Result<Span<'t, 'a>, u32>
     ensures { body_at end behind.entry ≡ body_view result }
 {
     let (_, tokens) = token_taken(Kind::Assign, end, behind?)?;
@@ -262,10 +262,7 @@ fn close_taken<'t, 'a>(
 // ---- equations
 
 /// Both equations of a function, as far as they go.
-fn equations_told<'t, 'a>(
-    end: u32,
-    behind: Result<&'t [Token<'a>], u32>,
-) -> Told<Equations<'t, 'a>>
+fn equations_told<'t, 'a>(end: u32, behind: Result<&'t [Token<'a>], u32>) -> Told<Equations<'t, 'a>>
     ensures { equations_at end behind.entry ≡ told both result }
 {
     let mut value = Equations {

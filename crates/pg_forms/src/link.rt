@@ -13,8 +13,8 @@ use crate::take::{Left, token_taken};
 use pg_base::Token;
 use std::alloc::{AllocError, Global};
 
-/// The links that these tokens tell: `a → b → c`, two worlds at least. Each world needs the one before it.
-/// The one error is want of memory.
+/// The links that these tokens tell, as `links_told` of `pg_gametext`: `a → b → c`, two worlds at least, where each needs
+/// the one before it. The next command begins at the byte `end`. The one error is want of memory.
 pub fn links_told<'a>(
     alloc: Global,
     end: u32,

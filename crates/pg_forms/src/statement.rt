@@ -10,7 +10,10 @@ ghost use Rattle.pg_forms.specs.Kinds.{fits};
 
 use crate::kind::Kind;
 use crate::parts::{BinderText, Span, StatementText, Told};
-use crate::take::{Left, block_taken, end_at, hypothesis_taken, names_taken, part_taken, place, split_first, token_taken};
+use crate::take::{
+    Left, block_taken, end_at, hypothesis_taken, names_taken, part_taken, place, split_first,
+    token_taken,
+};
 use pg_base::Token;
 use std::alloc::{AllocError, Global};
 
@@ -40,7 +43,10 @@ pub(crate) struct Claim<'t, 'a> {
     block: Option<Span<'t, 'a>>,
 }
 
-/// The statement that these tokens tell: `TEXT name binder .. : formula := by block`. The one error is want of memory.
+/// The statement that these tokens tell, as `statement_told` of `pg_gametext`. The next command begins at the byte `end`.
+/// The one error is want of memory.
+///
+/// `TEXT name binder .. : formula := by block`, where the text, the name and the binders may be left out.
 pub fn statement_told<'t, 'a>(
     alloc: Global,
     end: u32,

@@ -75,7 +75,7 @@ pub(crate) fn token_taken<'t, 'a>(
     }
 }
 
-/// One token of a kind, and nothing behind it.
+/// One token of a kind and nothing behind it, as `one_token` of `pg_gametext`. The next command begins at the byte `end`.
 pub fn one_token<'a>(kind: Kind, end: u32, tokens: &[Token<'a>]) -> Told<Option<Token<'a>>>
     ensures { one_token (fits kind) end (words tokens.now) ≡ told token result }
 {
@@ -175,7 +175,7 @@ pub(crate) fn names_taken<'t, 'a>(
     Ok(tokens.split_at(count))
 }
 
-/// Names and nothing behind them, at least one.
+/// Names and nothing behind them, at least one, as `names_told` of `pg_gametext`. The next command begins at the byte `end`.
 pub fn names_told<'t, 'a>(end: u32, tokens: &'t [Token<'a>]) -> Told<&'t [Token<'a>]>
     ensures { names_told end (words tokens.now) ≡ told names result }
 {

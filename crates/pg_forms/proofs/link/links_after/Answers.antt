@@ -1,4 +1,4 @@
-use Rattle.std.proofs.Common.{◌≡◌, ◌∙◌, ap, sym, refl}
+use Rattle.std.proofs.Common.{◌∙◌, ap, sym, refl}
 use Rattle.pg_base.specs.Tokens.{word}
 use Rattle.pg_script.specs.View.{words}
 use Rattle.pg_forms.specs.Taken.{first_taken}

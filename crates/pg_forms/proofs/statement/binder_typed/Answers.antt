@@ -1,5 +1,4 @@
-use Rattle.std.proofs.Common.{◌≡◌, ◌∙◌, ap}
-use Rattle.pg_base.specs.Tokens.{word}
+use Rattle.std.proofs.Common.{◌∙◌, ap}
 use Rattle.pg_script.specs.View.{words}
 use Rattle.pg_forms.specs.Taken.{first_taken}
 use Rattle.pg_forms.proofs.Bindings.{typed_nat, typed_other}

@@ -1,4 +1,4 @@
-use Rattle.std.proofs.Common.{◌≡◌, ◌∙◌, ◌-◌, ◌+◌, ap, map, length, Some, None, []}
+use Rattle.std.proofs.Common.{◌∙◌, ◌-◌, ◌+◌, ap, map, length, Some, None, []}
 use Rattle.pg_script.specs.View.{words}
 use Rattle.pg_gametext.specs.Forms.{binders_taken, binders_stuck}
 use Rattle.pg_forms.specs.View.{binder}

@@ -1,6 +1,6 @@
-use Rattle.std.proofs.Common.{◌≡◌, ◌∙◌, ap, map, option_map, List}
+use Rattle.std.proofs.Common.{◌∙◌, ap, map, option_map}
 use Rattle.std.proofs.lemmas.List.{length-map}
-use Rattle.pg_base.specs.Tokens.{Word, word}
+use Rattle.pg_base.specs.Tokens.{word}
 use Rattle.pg_script.specs.View.{words}
 use Rattle.pg_gametext.specs.Forms.{statement_binders, binders_taken}
 use Rattle.pg_forms.specs.View.{binder}
