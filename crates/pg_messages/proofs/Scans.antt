@@ -196,7 +196,7 @@ scan-stays a more d =
       | false ↦ λ e.
           let le : 16384 ≤ length a = grind (arith, nat_tests, e) in
           let same : take 16384 (a ++ more) ≡ take 16384 a = take-append-le 16384 a more le in
-          rw same refl
+          rw same (refl {a = lines_behind (blank_len (take 16384 a)) (take 16384 a)})
     ]) refl
 
 -- how long the bytes are by what the scan says
