@@ -1,16 +1,14 @@
 -- Laws of a connection's messages.
-use Rattle.std.proofs.Common.{◌≡◌, ◌≤◌, ◌<◌, ◌⊎◌, inl, inr, ℕ, zero, suc, ◌+◌, ◌-◌, Bool, true, false, ◌&&◌, ◌||◌, ◌==◌, cond, ltb, List, [], ◌∷◌, ◌++◌, length, take, drop, Option, Some, None, sym as flip, ◌∙◌, ap, subst, refl, arith, rules}
-use Rattle.std.specs.Prelude.{nat_lt, if◌then◌else◌, codes}
-use Rattle.std.specs.List.{list_any}
+use Rattle.std.proofs.Common.{◌≡◌, ◌≤◌, ◌<◌, ◌⊎◌, inl, inr, ℕ, ◌+◌, Bool, true, false, ◌||◌, ◌==◌, cond, List, [], ◌∷◌, ◌++◌, length, take, drop, Option, Some, None, sym as flip, ◌∙◌, ap, subst, refl, arith}
+use Rattle.std.specs.Prelude.{nat_lt, codes}
 use Rattle.std.specs.Str.{bytes_eq}
 use Rattle.std.specs.Str.Parse.{digits_value}
-use Rattle.std.proofs.lemmas.List.{take-append-le, drop-append-le, length-take, length-append, take_all, length-drop, append-nil}
+use Rattle.std.proofs.lemmas.List.{take-append-le, drop-append-le, length-append, length-drop, append-nil}
 use Rattle.std.proofs.lemmas.Bool.Decides.{nat_tests}
 use Rattle.httparse.specs.Grammar.{RequestHead}
 use Rattle.httparse.proofs.GrammarLemmas.{request_unique}
-use Rattle.pg_messages.specs.Head.{blank_len, head_scan, Scan, open_head, over_limit, ended, IsHead}
-use Rattle.pg_messages.specs.Replies.{Said, in_json}
-use Rattle.pg_messages.specs.Messages.{Message, What, values_of, length_digits, is_last, fatal_message, what_of, with_body, with_length, with_lengths, too_long_body, of_head, IsNextAt, IsNext, WaitsFor}
+use Rattle.pg_messages.specs.Head.{head_scan, Scan, open_head, over_limit, ended, IsHead}
+use Rattle.pg_messages.specs.Messages.{Message, values_of, length_digits, is_last, fatal_message, what_of, with_body, with_length, with_lengths, too_long_body, of_head, IsNextAt, IsNext, WaitsFor}
 use Rattle.pg_messages.proofs.Scans.{IsDecided, scan-stays, ScanIs, scan-is}
 
 -- ---- a message by its head, whatever stands behind the head
@@ -36,7 +34,7 @@ told-length : (k size : ℕ) (h : RequestHead) (digits : List ℕ) → ((rest : 
 unfolding Told
 told-length k size h digits is =
     (elim (nat_lt 65536 (digits_value 10 digits)) as (λ v. nat_lt 65536 (digits_value 10 digits) ≡ v
-        → ((rest : List ℕ) → of_head k size rest (Some h) ≡ cond v (Some (fatal_message 413 size (too_long_body digits))) (with_body k h size rest (digits_value 10 digits))) → Told k size (Some h)) [
+    → ((rest : List ℕ) → of_head k size rest (Some h) ≡ cond v (Some (fatal_message 413 size (too_long_body digits))) (with_body k h size rest (digits_value 10 digits))) → Told k size (Some h)) [
       | true ↦ λ e i. inl (record { message = fatal_message 413 size (too_long_body digits); closes = refl; as_long = refl; is = i })
       | false ↦ λ e i. inr (record { h = h; n = digits_value 10 digits; few = grind (arith, nat_tests, e); is = i })
     ]) refl is
@@ -46,7 +44,7 @@ unfolding Told
 told-lengths k size h None is = inl (record { message = fatal_message 400 size (codes "{\"error\":\"length\"}"); closes = refl; as_long = refl; is = is })
 told-lengths k size h (Some digits) is =
     (elim (nat_lt 0 (length (values_of (codes "transfer-encoding") h.fields))) as (λ v.
-        ((rest : List ℕ) → of_head k size rest (Some h) ≡ cond v (Some (fatal_message 501 size (codes "{\"error\":\"transfer-coding\"}"))) (with_length k h size rest digits)) → Told k size (Some h)) [
+    ((rest : List ℕ) → of_head k size rest (Some h) ≡ cond v (Some (fatal_message 501 size (codes "{\"error\":\"transfer-coding\"}"))) (with_length k h size rest digits)) → Told k size (Some h)) [
       | true ↦ λ i. inl (record { message = fatal_message 501 size (codes "{\"error\":\"transfer-coding\"}"); closes = refl; as_long = refl; is = i })
       | false ↦ λ i. told-length k size h digits i
     ]) is
@@ -125,10 +123,12 @@ of-head-ends k size rest head m e open_ last =
   where
     closed-open : (a b : Message) → Some a ≡ Some b → a.closes ≡ true → b.closes ≡ false → ⊥
     closed-open a b e x y = cc
+
     closing : (a b c : Bool) → b ≡ true → (a || b || c) ≡ false → ⊥
     closing true b c x y = cc
     closing false true c x y = cc
     closing false false c x y = cc
+
     at : (h : RequestHead) → is_last k h ≡ false → ⊥
     at h e =
         let thousandth : (k == 999) ≡ true = grind (arith, nat_tests, last) in
@@ -189,8 +189,7 @@ pub waits-for-body : (k : ℕ) (bytes : List ℕ) (blank n : ℕ) (h : RequestHe
     → ((rest : List ℕ) → of_head k (blank + n) rest (Some h) ≡ with_body k h (blank + n) rest size) → length (drop (blank + n) bytes) < size
     → WaitsFor k bytes (blank + n + size)
 waits-for-body k bytes blank n h size e is few told short =
-    let lies : ScanIs (length bytes) (ended blank n) = subst (ScanIs (length bytes)) e (scan-is bytes) in
-    (
+    let lies : ScanIs (length bytes) (ended blank n) = subst (ScanIs (length bytes)) e (scan-is bytes) in (
       omega (arith, lies.0, short, length-drop (blank + n) bytes),
       omega (arith, lies.1, few),
       λ more lt. undecided more lies.0 lt,
@@ -234,3 +233,23 @@ unique k bytes a b x y =
           let same = head-unique (take n (drop blank bytes)) i.0 j.0 i.1 j.1 in
           i.2 ∙ ap (λ h. of_head k (blank + n) (drop (blank + n) bytes) h) same ∙ flip j.2
     ]) x y
+
+-- Where no message is decided, the bytes are fewer than the largest message has.
+pub decided : (k : ℕ) (bytes : List ℕ) → IsNext k bytes None → length bytes < 81920
+unfolding Told
+decided k bytes h =
+    (elim (head_scan bytes) as (λ s. head_scan bytes ≡ s → IsNextAt k bytes s None → length bytes < 81920) [
+      | open_head ↦ λ e i.
+          let short : ScanIs (length bytes) open_head = subst (ScanIs (length bytes)) e (scan-is bytes) in
+          omega (arith, short)
+      | over_limit ↦ λ e i. absurd (some-none _ (flip i))
+      | ended blank n ↦ λ e i.
+          let lies : ScanIs (length bytes) (ended blank n) = subst (ScanIs (length bytes)) e (scan-is bytes) in
+          let rest = drop (blank + n) bytes in
+          (elim (told k (blank + n) i.0) [
+            | inl f ↦ absurd (some-none f.message (flip (f.is rest) ∙ flip i.2))
+            | inr b ↦
+                let short = body-waits k b.h (blank + n) rest b.n (flip (b.is rest) ∙ flip i.2) in
+                omega (arith, lies.0, lies.1, b.few, short, length-drop (blank + n) bytes)
+          ])
+    ]) refl h

@@ -1,7 +1,6 @@
 -- More bytes leave a head where it ended.
-use Rattle.std.proofs.Common.{◌≡◌, ◌≤◌, ◌<◌, ℕ, zero, suc, ◌+◌, ◌-◌, min, Bool, true, false, ◌&&◌, ◌||◌, ◌==◌, not, cond, ltb, List, [], ◌∷◌, ◌++◌, length, take, drop, Option, Some, None, sym as flip, ◌∙◌, ap, subst, refl, arith, rules}
-use Rattle.std.specs.Prelude.{nat_lt, if◌then◌else◌}
-use Rattle.std.specs.List.{position_or_len, prefix_len}
+use Rattle.std.proofs.Common.{◌≡◌, ◌≤◌, ◌<◌, ℕ, zero, suc, ◌+◌, ◌-◌, min, Bool, true, false, ◌&&◌, ◌==◌, not, cond, ltb, List, [], ◌∷◌, ◌++◌, length, take, drop, Some, None, sym as flip, ◌∙◌, ap, subst, refl, arith}
+use Rattle.std.specs.List.{prefix_len}
 use Rattle.std.proofs.lemmas.List.{take-append-le, drop-append-le, length-take, length-append, take_all, length-drop}
 use Rattle.std.proofs.lemmas.Bool.Decides.{nat_tests}
 use Rattle.pg_messages.specs.Head.{blank_len, line_len, is_empty_line, Scan, open_head, over_limit, ended, later, line_then, head_lines, within_limit, lines_behind, head_scan}
@@ -57,7 +56,7 @@ lines-stay blank (suc most) a b d =
           let back : drop n (a ++ b) ≡ drop n a ++ b = drop-append-le n a b line.within in
           rw (line.stays b, front, back)
           ((elim (is_empty_line (take n a)) as (λ v. IsDecided (cond v (ended blank n) (later n (head_lines blank most (drop n a))))
-              → cond v (ended blank n) (later n (head_lines blank most (drop n a ++ b))) ≡ cond v (ended blank n) (later n (head_lines blank most (drop n a)))) [
+          → cond v (ended blank n) (later n (head_lines blank most (drop n a ++ b))) ≡ cond v (ended blank n) (later n (head_lines blank most (drop n a)))) [
             | true ↦ λ d. refl
             | false ↦ λ d. ap (later n) (lines-stay blank most (drop n a) b (decided-before n (head_lines blank most (drop n a)) d))
           ]) d)
@@ -112,12 +111,12 @@ blank-stays (b ∷ []) more n e =
     ]) refl e
 blank-stays (b ∷ c ∷ w) more n e =
     (elim (b == 10) as (λ v. line_len (drop (cond v (suc (blank_len (c ∷ w))) (cond ((b == 13) && (c == 10)) (suc (suc (blank_len w))) 0)) (b ∷ c ∷ w)) ≡ Some n
-        → cond v (suc (blank_len (c ∷ (w ++ more)))) (cond ((b == 13) && (c == 10)) (suc (suc (blank_len (w ++ more)))) 0)
-          ≡ cond v (suc (blank_len (c ∷ w))) (cond ((b == 13) && (c == 10)) (suc (suc (blank_len w))) 0)) [
+    → cond v (suc (blank_len (c ∷ (w ++ more)))) (cond ((b == 13) && (c == 10)) (suc (suc (blank_len (w ++ more)))) 0)
+    ≡ cond v (suc (blank_len (c ∷ w))) (cond ((b == 13) && (c == 10)) (suc (suc (blank_len w))) 0)) [
       | true ↦ λ h. ap suc (blank-stays (c ∷ w) more n h)
       | false ↦ λ h.
           (elim ((b == 13) && (c == 10)) as (λ v. line_len (drop (cond v (suc (suc (blank_len w))) 0) (b ∷ c ∷ w)) ≡ Some n
-              → cond v (suc (suc (blank_len (w ++ more)))) 0 ≡ cond v (suc (suc (blank_len w))) 0) [
+          → cond v (suc (suc (blank_len (w ++ more)))) 0 ≡ cond v (suc (suc (blank_len w))) 0) [
             | true ↦ λ k. ap (λ x. suc (suc x)) (blank-stays w more n k)
             | false ↦ λ k. refl
           ]) h

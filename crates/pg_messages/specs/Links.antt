@@ -1,10 +1,10 @@
 -- What a link reads and writes, over any service.
-use Rattle.std.specs.Prelude.{◌≡◌, ◌⊎◌, ℕ, Bool, false, ◌<◌, ◌≤◌, List, [], ◌∷◌, ◌++◌, length, take, Option, Some, None, ⊤}
+use Rattle.std.specs.Prelude.{◌≡◌, ◌⊎◌, ℕ, false, ◌<◌, List, [], ◌∷◌, ◌++◌, length, take, Option, Some, None}
 use Rattle.std.specs.List.{list_any}
 use Rattle.std.specs.Io.KnownBytes.{Consumes, Appends, IsAtEnd}
 use Rattle.pg_messages.specs.Paths.{Verb}
 use Rattle.pg_messages.specs.Replies.{Said, reply_bytes}
-use Rattle.pg_messages.specs.Messages.{Ask, What, asks, refused, fatal, Message, End, done, closed, truncated, AreMessages, Begin, IsNext}
+use Rattle.pg_messages.specs.Messages.{Ask, What, asks, refused, fatal, Message, End, AreMessages, Begin, IsNext}
 
 -- how a service goes from what it holds to what it holds afterwards, by a request and its reply
 abbrev pub Service : Type 0 → Type 1
