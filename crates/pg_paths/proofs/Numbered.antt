@@ -1,19 +1,12 @@
 -- The walk of matchit over the routes gives the kind of a path.
-use Rattle.std.proofs.Common.{◌≡◌, ℕ, zero, suc, lit<, ltb, ◌&&◌, MatchOption, ◌<◌, List, [], ◌∷◌, ◌++◌, length, drop, Option, Some, None, Bool, true, false, cond, refl, sym, ap, ◌∙◌, arith, nat_eq, ◌==◌, codes, Result, Ok, Err, option_map, Fits, w8, get_or}
-use Rattle.std.specs.List.{starts_with}
-use Rattle.std.proofs.lemmas.Bool.Decides.{nat_tests}
+use Rattle.std.proofs.Common.{◌≡◌, ℕ, List, [], ◌∷◌, ◌++◌, cond, refl, ◌==◌, codes, Result, Ok, Err}
 use Rattle.matchit.specs.Rows.{Rows, prepend, param_token}
-use Rattle.matchit.specs.Seek.{first, or_else, step, has_slash, segment}
-use Rattle.matchit.specs.Level.{IsText}
 use Rattle.matchit.specs.Route.{Scan, scan, parse_route}
-use Rattle.matchit.specs.Router.{RouteOf, route_from, rename, map_key}
+use Rattle.matchit.specs.Router.{RouteOf, route_from, rename}
 use Rattle.matchit.specs.declared.error.InsertError.{InsertError}
-use Rattle.matchit.proofs.SeekLemmas.{first-prefix}
-use Rattle.matchit.proofs.RenameLemmas.{first-rename}
 use Rattle.pg_paths.specs.declared.routing.Kind.{Kind}
 use Rattle.pg_paths.specs.declared.routing.Kind.TheVariants.{Game, Me, Level, Transcript, Certificate, Try, Submit}
 use Rattle.pg_paths.specs.Routes.{route_rows}
-use Rattle.pg_paths.specs.Plain.{after, ends, one_part, two_parts, is_part, route_behind, kind_of_path}
 
 abbrev pub number_of : Kind → ℕ
 number_of Game = 1

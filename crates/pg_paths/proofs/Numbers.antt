@@ -1,7 +1,6 @@
 -- A number without leading zeros.
-use Rattle.std.proofs.Common.{◌≡◌, ◌≢◌, ◌≤◌, ◌<◌, ◌^◌, ℕ, zero, suc, ◌+◌, Bool, true, false, not, ◌&&◌, ◌==◌, cond, ltb, List, [], ◌∷◌, length, Option, Some, None, Result, Ok, Err, MatchResult, sym as flip, ◌∙◌, ap, subst, refl, arith, rules, get_or}
+use Rattle.std.proofs.Common.{◌≡◌, ◌≢◌, ◌≤◌, ◌<◌, ◌^◌, ℕ, true, false, not, ◌&&◌, ◌==◌, cond, List, length, Some, None, Result, Ok, Err, MatchResult, sym as flip, ◌∙◌, ap, subst, refl, arith, get_or}
 use Rattle.std.specs.Prelude.{nat_lt, nat_le, slice_index}
-use Rattle.std.specs.Result.{OkIff}
 use Rattle.std.specs.Char.{is_ascii_digit}
 use Rattle.std.specs.Str.{all_ascii_digits}
 use Rattle.std.specs.Str.Parse.{digits_value, ParsesUnsigned}

@@ -1,13 +1,13 @@
 -- The walk of matchit over rows whose texts are known.
-use Rattle.std.proofs.Common.{◌≡◌, ◌≢◌, ℕ, zero, suc, ◌+◌, ◌-◌, ◌<◌, ◌≤◌, List, [], ◌∷◌, ◌++◌, length, drop, take, Option, Some, None, Bool, true, false, cond, refl, sym, ap, ◌∙◌, arith, nat_eq, ◌==◌, ltb, append-nil, take_all, not, ◌&&◌, length-append, append_assoc, subst}
+use Rattle.std.proofs.Common.{◌≡◌, ◌≢◌, ℕ, suc, ◌+◌, ◌-◌, ◌<◌, List, [], ◌∷◌, ◌++◌, length, drop, Some, None, Bool, true, false, cond, refl, sym, ap, ◌∙◌, arith, nat_eq, ◌==◌, ltb, append-nil, not, ◌&&◌, length-append, append_assoc, subst}
 use Rattle.std.proofs.Math.Seq.{drop-length, drop-append_seam}
 use Rattle.std.proofs.lemmas.Bool.Decides.{nat_tests}
-use Rattle.std.specs.List.{starts_with, ends_with}
+use Rattle.std.specs.List.{ends_with}
 use Rattle.matchit.specs.Rows.{Rows, prepend, param_token, catch_all_token}
 use Rattle.matchit.specs.Seek.{own, step, or_else, seek, first, param_step, has_slash, segment, cuts}
 use Rattle.matchit.specs.Level.{IsText}
-use Rattle.matchit.proofs.SeekLemmas.{first-prefix, own-append, step-append, own-prepend, step-hit, step-miss, prepend-nil, seek-lit, seek-empty, seek-drop, or_else-none, param_step-empty}
-use Rattle.pg_paths.specs.Plain.{is_part, one_part, two_parts, ends}
+use Rattle.matchit.proofs.SeekLemmas.{first-prefix, own-append, step-append, own-prepend, step-miss, seek-lit, seek-empty, seek-drop, or_else-none, param_step-empty}
+use Rattle.pg_paths.specs.Plain.{one_part, two_parts, ends}
 
 -- rows that begin with bytes, as the walk sees them
 pub record IsLiteral (r : Rows) : Type 0 where

@@ -1,5 +1,5 @@
 -- Which route a path has, said of the text alone.
-use Rattle.std.specs.Prelude.{ℕ, List, [], ◌∷◌, Option, Some, None, Bool, true, false, cond, not, ◌&&◌, ltb, codes, drop, length, nat_eq, option_map, ◌==◌}
+use Rattle.std.specs.Prelude.{ℕ, List, [], ◌∷◌, Option, Some, None, Bool, cond, not, ◌&&◌, ltb, codes, drop, length, nat_eq}
 use Rattle.std.specs.List.{starts_with}
 use Rattle.matchit.specs.Seek.{has_slash, or_else, segment}
 use Rattle.pg_paths.specs.declared.routing.Kind.{Kind}

@@ -1,5 +1,4 @@
 -- What verbs and routes stand for.
-use Rattle.std.specs.Prelude.{ℕ, List}
 use Rattle.pg_messages.specs.Paths as paths
 use Rattle.pg_paths.specs.declared.path.Verb.{Verb}
 use Rattle.pg_paths.specs.declared.path.Verb.TheVariants.{Get, Post}

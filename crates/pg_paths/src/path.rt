@@ -37,22 +37,15 @@ pub enum Route<'a> {
     /// The caller's progress.
     Me,
     /// A level: its world's name as the path has it, and its number from 1 to 64.
-    Level {
-        world: &'a str,
-        number: u16,
-    },
+    Level { world: &'a str, number: u16 },
     /// A script that is tried.
     Try,
     /// A script that is handed in.
     Submit,
     /// The steps of the caller's attempt of this number.
-    Transcript {
-        no: u32,
-    },
+    Transcript { no: u32 },
     /// The proof of the caller's attempt of this number.
-    Certificate {
-        no: u32,
-    },
+    Certificate { no: u32 },
 }
 
 impl Route<'_> {

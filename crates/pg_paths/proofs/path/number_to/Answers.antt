@@ -1,5 +1,4 @@
-use Rattle.std.proofs.Common.{◌≡◌, ◌≢◌, ◌<◌, ◌^◌, ℕ, get_or, Ok, Err, arith, rules, subst, sym as flip, ◌∙◌, ap, List}
-use Rattle.std.proofs.lemmas.Bool.Decides.{nat_tests}
+use Rattle.std.proofs.Common.{◌≡◌, ◌≢◌, ℕ, get_or, subst, sym as flip, ◌∙◌, List}
 use Rattle.pg_paths.proofs.Numbers.{number-told, no-plus}
 use Rattle.pg_paths.proofs.path.number_to.Goals as goal
 

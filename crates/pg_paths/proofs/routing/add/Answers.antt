@@ -1,4 +1,3 @@
-use Rattle.std.proofs.Common.{codes}
 use Rattle.matchit.specs.Route.{parse_route}
 use Rattle.pg_paths.proofs.RouteLemmas.{with_read-inserts}
 use Rattle.pg_paths.proofs.routing.add.Goals as goal
