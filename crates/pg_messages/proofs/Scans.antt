@@ -46,6 +46,7 @@ line-is a n =
 -- ---- the lines of a head
 
 pub lines-stay : (blank most : ℕ) (a b : List ℕ) → IsDecided (head_lines blank most a) → head_lines blank most (a ++ b) ≡ head_lines blank most a
+unfolding head_lines
 lines-stay blank zero a b d = refl
 lines-stay blank (suc most) a b d =
     (elim (line_len a) as (λ o. line_len a ≡ o → IsDecided (line_then blank o a (head_lines blank most)) → line_then blank (line_len (a ++ b)) (a ++ b) (head_lines blank most) ≡ line_then blank o a (head_lines blank most)) [
@@ -74,6 +75,7 @@ LiesIn blank size over_limit = Unit {0}
 LiesIn blank size (ended b n) = (b ≡ blank) × (n ≤ size)
 
 pub lines-lie : (blank most : ℕ) (a : List ℕ) → LiesIn blank (length a) (head_lines blank most a)
+unfolding head_lines
 lines-lie blank zero a = tt
 lines-lie blank (suc most) a =
     (elim (line_len a) as (λ o. line_len a ≡ o → LiesIn blank (length a) (line_then blank o a (head_lines blank most))) [
@@ -94,6 +96,7 @@ lines-lie blank (suc most) a =
 
 -- a head goes on where its first line has not ended
 open-line : (blank most : ℕ) (a : List ℕ) → line_len a ≡ None → IsDecided (head_lines blank (suc most) a) → ⊥
+unfolding head_lines
 open-line blank most a e d = let bad = rw e at d in bad
 
 -- ---- the empty lines at the front

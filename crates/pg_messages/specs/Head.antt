@@ -37,7 +37,7 @@ line_then blank (Some n) bytes rest =
     if is_empty_line (take n bytes) then ended blank n else later n (rest (drop n bytes))
 
 -- the lines up to the first empty one, which is one of the first `most`; so many bytes were passed over before
-abbrev pub head_lines : ℕ → ℕ → List ℕ → Scan
+unfoldable pub head_lines : ℕ → ℕ → List ℕ → Scan
 head_lines blank zero bytes = over_limit
 head_lines blank (suc most) bytes = line_then blank (line_len bytes) bytes (head_lines blank most)
 
