@@ -19,10 +19,7 @@ pub enum Scan {
     /// It is longer than a head may be.
     OverLimit,
     /// It has ended: after so many bytes of empty lines come so many of the head.
-    Ended {
-        blank: usize,
-        head: usize,
-    },
+    Ended { blank: usize, head: usize },
 }
 
 /// Where the head at the front ends, behind the empty lines that are passed over.

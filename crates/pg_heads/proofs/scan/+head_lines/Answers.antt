@@ -1,4 +1,4 @@
-use Rattle.std.proofs.Common.{◌≡◌, Bool, true, false, List, ℕ, ◌∙◌, ◌+◌, ◌-◌, sym as flip, ap, subst, take, drop, Some}
+use Rattle.std.proofs.Common.{List, ℕ, ◌∙◌, ◌+◌, ◌-◌, sym as flip, ap}
 use Rattle.pg_messages.specs.Head.{is_empty_line, later, head_lines}
 use Rattle.pg_heads.proofs.Lines.{lines-zero, lines-open, lines-ended, lines-next}
 use Rattle.pg_heads.proofs.scan.+head_lines.Goals as goal

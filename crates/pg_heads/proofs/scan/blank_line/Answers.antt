@@ -1,4 +1,4 @@
-use Rattle.std.proofs.Common.{◌≡◌, Bool, true, false, List, ℕ, [], ◌∷◌, drop}
+use Rattle.std.proofs.Common.{◌≡◌, Bool, true, false, [], ◌∷◌, drop}
 use Rattle.pg_heads.proofs.Lines.{blank-feed, blank-pair, blank-none, front-is}
 use Rattle.pg_heads.proofs.scan.blank_line.Goals as goal
 
