@@ -1,5 +1,5 @@
 // A reply and its bytes.
-ghost use Rattle.std.specs.Prelude.{◌≡◌, ◌++◌, [], IfOk, option_map, string_bytes, unwrap_or};
+ghost use Rattle.std.specs.Prelude.{◌≡◌, [], IfOk, option_map, string_bytes, unwrap_or};
 ghost use Rattle.http.specs.StatusCode.{IsStatusCode, reason_phrase};
 ghost use Rattle.pg_messages.specs.Replies as replies;
 ghost use Rattle.pg_paths.specs.View.{verb_view};
@@ -66,8 +66,8 @@ pub fn reply_bytes(alloc: Global, reply: &Reply, allow: Option<Verb>, closes: bo
 // The bytes of a reply with these parts.
 fn whole(alloc: Global, status: u16, kind: BodyKind, allow: Option<Verb>, closes: bool, body: &str) -> Result<String, AllocError>
     requires { IsStatusCode status }
-    ensures { IfOk result (λ text. string_bytes text ≡ replies.head_bytes
-        (record { status = status; kind = kind_view kind; body = body.now }) (option_map verb_view allow) closes ++ body.now) }
+    ensures { IfOk result (λ text. string_bytes text ≡ replies.message_bytes
+        (record { status = status; kind = kind_view kind; body = body.now }) (option_map verb_view allow) closes) }
 {
     let words = phrase(status);
     let kind = kind.word();
