@@ -1,5 +1,5 @@
 // A reply and its bytes.
-ghost use Rattle.std.specs.Prelude.{◌≡◌, [], IfOk, option_map, string_bytes, unwrap_or};
+ghost use Rattle.std.specs.Prelude.{◌≡◌, ◌++◌, [], IfOk, option_map, string_bytes, unwrap_or};
 ghost use Rattle.http.specs.StatusCode.{IsStatusCode, reason_phrase};
 ghost use Rattle.pg_messages.specs.Replies as replies;
 ghost use Rattle.pg_paths.specs.View.{verb_view};
@@ -69,12 +69,39 @@ fn whole(alloc: Global, status: u16, kind: BodyKind, allow: Option<Verb>, closes
     ensures { IfOk result (λ text. string_bytes text ≡ replies.message_bytes
         (record { status = status; kind = kind_view kind; body = body.now }) (option_map verb_view allow) closes) }
 {
+    let first = status_line(alloc, status)?;
+    let kinds = kind_lines(alloc, kind, allow)?;
+    let sizes = size_lines(alloc, body.len(), closes)?;
+    joined(alloc, first.as_str(), kinds.as_str(), sizes.as_str(), body)
+}
+
+fn joined(alloc: Global, first: &str, kinds: &str, sizes: &str, body: &str) -> Result<String, AllocError>
+    ensures { IfOk result (λ text. string_bytes text ≡ first.now ++ (kinds.now ++ (sizes.now ++ body.now))) }
+{
+    format!(in alloc; "{first}{kinds}{sizes}{body}")
+}
+
+fn status_line(alloc: Global, status: u16) -> Result<String, AllocError>
+    requires { IsStatusCode status }
+    ensures { IfOk result (λ text. string_bytes text ≡ replies.status_line status) }
+{
     let words = phrase(status);
+    format!(in alloc; "HTTP/1.1 {status} {words}\r\n")
+}
+
+fn kind_lines(alloc: Global, kind: BodyKind, allow: Option<Verb>) -> Result<String, AllocError>
+    ensures { IfOk result (λ text. string_bytes text ≡ replies.kind_lines (kind_view kind) (option_map verb_view allow)) }
+{
     let kind = kind.word();
     let allow = allow_line(allow);
+    format!(in alloc; "Content-Type: {kind}\r\n{allow}")
+}
+
+fn size_lines(alloc: Global, size: usize, closes: bool) -> Result<String, AllocError>
+    ensures { IfOk result (λ text. string_bytes text ≡ replies.size_lines size closes) }
+{
     let close = close_line(closes);
-    let length = body.len();
-    format!(in alloc; "HTTP/1.1 {status} {words}\r\nContent-Type: {kind}\r\n{allow}Content-Length: {length}\r\n{close}\r\n{body}")
+    format!(in alloc; "Content-Length: {size}\r\n{close}\r\n")
 }
 
 // The phrase of a status, or nothing where it has none.
