@@ -1,5 +1,6 @@
 mod Available
 mod Numbered
+mod Good
 mod Open
 mod Plans
 mod Truth

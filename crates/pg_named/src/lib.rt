@@ -1,0 +1,12 @@
+//! The names of a game text: which are given and bound before a place, and the first fault of those that a command gives
+//! or binds.
+#![tactic(auto)]
+
+mod given;
+mod names;
+mod search;
+
+pub use given::{
+    Given, GivenNames, constant_names, function_names, predicate_names, statement_names,
+};
+pub use names::Names;
