@@ -4,3 +4,4 @@ pub mod Seen
 pub mod Digits
 pub mod Named
 pub mod Told
+pub mod Distinct

@@ -1,5 +1,5 @@
 -- What is kept of the commands before a place, and which commands it stands for.
-use Rattle.std.specs.Prelude.{◌≡◌, ℕ, ◌<◌, ◌≤◌, ◌==◌, Bool, not, List, ◌∷◌, Option, Some, None, if◌then◌else◌}
+use Rattle.std.specs.Prelude.{◌≡◌, ℕ, ◌<◌, ◌≤◌, ◌==◌, Bool, not, List, ◌∷◌, map, Option, Some, None, if◌then◌else◌}
 use Rattle.pg_base.specs.Tokens.{Word}
 use Rattle.pg_logic.specs.Declarations.{Name}
 use Rattle.pg_gametext.specs.Faults.{level_limit}
@@ -43,6 +43,11 @@ pub record Stands (t : There) (before : List Placed) : Type 0 where
   pub game_texts : (w : Which) → place_of w t.game ≡ text_place w of_game before
   pub world_texts : (w : Which) (x : Name) → place_of w (read_named its_texts no_texts x t.worlds) ≡ text_place w (of_world x) before
   pub level_texts : (w : Which) → place_of w t.level ≡ text_place w (of_level (level_count before)) before
+
+-- these are the worlds of some commands, in their order, each with the number of its levels
+pub record AreWorlds (ws : List Held) (before : List Placed) : Type 0 where
+  pub names : names_of ws ≡ worlds before
+  pub levels : map its_levels ws ≡ map (λ x. levels_of (Some x) before) (worlds before)
 
 -- ---- the current world
 

@@ -1,17 +1,18 @@
 // What is kept of the commands before a place, and the faults of a command there.
-ghost use Rattle.std.specs.Prelude.{◌≡◌, ◌++◌, ◌||◌, List, [], IfOk, OnOk, OnErr, None, Some, not, option_map};
-ghost use Rattle.std.specs.Option.{is_some};
+ghost use Rattle.std.specs.Prelude.{◌≡◌, ◌++◌, ◌||◌, List, [], IfOk, OnOk, OnErr, None, Some, not, option_map, position};
+ghost use Rattle.std.specs.Option.{is_some, option_and_then};
+ghost use Rattle.std.specs.Str.{bytes_eq};
 ghost use Rattle.pg_base.specs.Tokens.{word};
 ghost use Rattle.pg_script.specs.View.{words};
 ghost use Rattle.pg_commands.specs.View.{which};
 ghost use Rattle.pg_faults.specs.View.{found};
-ghost use Rattle.pg_gametext.specs.Before.{counts, current_world, holder, in_level, levels_of, statement_place};
+ghost use Rattle.pg_gametext.specs.Before.{counts, current_world, holder, in_level, levels_of, statement_place, worlds};
 ghost use Rattle.pg_gametext.specs.Checks as text;
 ghost use Rattle.pg_gametext.specs.Faults.{least};
 ghost use Rattle.pg_gametext.specs.Game.{end_faults};
 ghost use Rattle.pg_gametext.specs.Placed.{Placed};
-ghost use Rattle.pg_places.specs.There.{Follows, HasRoom, IsLevel, IsStatement, IsText, IsWorldCalled, OthersLaw, Stands, levels_here, texts_here};
-ghost use Rattle.pg_places.specs.View.{there};
+ghost use Rattle.pg_places.specs.There.{AreWorlds, Follows, HasRoom, IsLevel, IsStatement, IsText, IsWorldCalled, OthersLaw, Stands, levels_here, texts_here};
+ghost use Rattle.pg_places.specs.View.{helds, there};
 
 use crate::moves::move_fault;
 use crate::number::number_fault;
@@ -62,14 +63,16 @@ impl Places {
 
     /// The worlds in the order of their first `World`.
     pub fn worlds(&self) -> &[World]
-        ensures { result.now ≡ self.now.worlds.items }
+        ensures worlds { result.now ≡ self.now.worlds.items }
+        ensures of_text { (before : List Placed) → Stands (there self.now) before → AreWorlds (helds result.now) before }
     {
         self.worlds.as_slice()
     }
 
-    /// The place among the worlds of the one that stands nearest before.
+    /// The place of the current world among the worlds: of the one whose `World` stands nearest before.
     pub fn current(&self) -> Option<usize>
-        ensures { result ≡ self.now.current }
+        ensures place { result ≡ self.now.current }
+        ensures of_text { (before : List Placed) → Stands (there self.now) before → result ≡ option_and_then (λ x. position (bytes_eq x) (worlds before)) (current_world before) }
     {
         self.current
     }
