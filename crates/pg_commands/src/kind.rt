@@ -7,7 +7,7 @@ ghost use Rattle.pg_gametext.specs.Commands.{begins_passed_line, ends_command, i
 
 use pg_base::{Token, TokenKind};
 
-/// Whether a line that begins with this token is passed over: one of four words at column 0 (docs/GAME-TEXT.md, "Whole games").
+/// Whether a line that begins with this token is passed over: one of four words at column 0 (docs/GAME-TEXT.md, "Lines that are passed over").
 pub fn begins_passed_line(token: &Token<'_>) -> bool
     ensures { result ≡ begins_passed_line (word token.now) }
 {

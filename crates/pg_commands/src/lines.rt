@@ -8,7 +8,7 @@ use pg_base::Token;
 use std::alloc::{AllocError, Global};
 
 /// The tokens of a text without the lines that are passed over, in their order. Such a line goes on up to the next token
-/// that is first of its line (docs/GAME-TEXT.md, "Whole games"). Takes time linear in the tokens.
+/// that is first of its line (docs/GAME-TEXT.md, "Lines that are passed over"). Takes time linear in the tokens.
 pub fn standing<'a>(alloc: Global, tokens: &[Token<'a>]) -> Result<Vec<Token<'a>>, AllocError>
     ensures stands { IfOk result (λ stand. words stand.items ≡ standing (words tokens.now)) }
 {

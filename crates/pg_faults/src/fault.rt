@@ -34,7 +34,7 @@ pub enum LimitName {
     Hints,
 }
 
-/// What is wrong. The codes are those of docs/GAME-TEXT.md, "Faults of whole games".
+/// What is wrong. The codes are those of docs/GAME-TEXT.md, "Faults".
 #[derive(Clone, Copy, Debug, PartialEq, Eq)]
 pub enum Kind {
     /// G3: no token begins here, or one isn't ended.

@@ -7,7 +7,7 @@ ghost use Rattle.pg_gametext.specs.Faults as text;
 use crate::fault::{Fault, Kind, LimitName};
 
 /// The first of the faults that one part of a text may have and that another part may have: that of the least place, and
-/// at one place that of the least rank (docs/GAME-TEXT.md, "Faults of whole games"); of two that are alike the one on the left.
+/// at one place that of the least rank (docs/GAME-TEXT.md, "Faults"); of two that are alike the one on the left.
 /// The least of two lists together is the first of the least of each.
 pub fn sooner(left: Option<Fault>, right: Option<Fault>) -> Option<Fault>
     ensures first { found result ≡ sooner (found left) (found right) }
