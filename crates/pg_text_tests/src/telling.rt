@@ -22,19 +22,27 @@ fn tokens(alloc: Global, text: &str) -> Result<Vec<Token<'_>>, AllocError>
     }
 }
 
+/// The tokens that are left to tell.
+#[derive(Clone, Copy)]
+struct Left<'t, 'a> {
+    tokens: &'t [Token<'a>],
+}
+
 /// How many commands these tokens are, 0 where they don't begin with one.
 fn command_count(alloc: Global, tokens: &[Token<'_>]) -> Result<u32, AllocError> {
-    let mut rest = tokens;
+    let mut left = Left { tokens };
     let mut count: u32 = 0;
     for _turn in 0..tokens.len() {
-        let Some((piece, behind)) = first_piece(0, rest) else {
-            return Ok(count);
-        };
-        if matches!(command_of(alloc, piece)?, Command::NoCommand) {
-            return Ok(0);
+        match first_piece(0, left.tokens) {
+            Some((piece, behind)) => {
+                if matches!(command_of(alloc, piece)?, Command::NoCommand) {
+                    return Ok(0);
+                }
+                count = count.saturating_add(1);
+                left = Left { tokens: behind };
+            }
+            None => return Ok(count),
         }
-        count = count.saturating_add(1);
-        rest = behind;
     }
     Ok(count)
 }
