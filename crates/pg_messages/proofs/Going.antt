@@ -167,7 +167,7 @@ pub whole-last : {S : Type 0} (step : Service S)
     → (old mid new : S) (left left_mid left_now written written_mid written_now : Option (List ℕ)) (n : ℕ) (rest : List ℕ) (m : Message) (said : Said)
     → Going step old mid left left_mid written written_mid n rest → left_now ≡ left_mid → IsNext n rest (Some m) → m.closes ≡ true
     → Answers step mid m.what said new → Appends written_mid written_now (reply_bytes said (allow_of m.what) m.closes)
-    → (all : Whole step old new left left_now written written_now (end_after m.what)) × IsReadOut all.messages left_now
+    → (all : Whole step old new left left_now written written_now (end_after m.what)) × IsReadOut all.messages left left_now
 whole-last step old mid new left left_mid left_now written written_mid written_now n rest m said g same is shut answered wrote = (
   record {
     input = g.input;

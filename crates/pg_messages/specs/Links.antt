@@ -1,5 +1,5 @@
 -- What a link reads and writes, over any service.
-use Rattle.std.specs.Prelude.{◌≡◌, ◌⊎◌, ℕ, false, ◌<◌, List, [], ◌∷◌, ◌++◌, length, take, Option, Some, None}
+use Rattle.std.specs.Prelude.{◌≡◌, ◌⊎◌, ℕ, false, ◌<◌, List, [], ◌∷◌, ◌++◌, length, take, Option, Some, None, ⊤}
 use Rattle.std.specs.List.{list_any}
 use Rattle.std.specs.Io.KnownBytes.{Consumes, Appends, IsAtEnd}
 use Rattle.pg_messages.specs.Paths.{Verb}
@@ -84,15 +84,20 @@ pub record Stopped {S : Type 0} (step : Service S) (old new : S) (left left_now 
   pub rest : List ℕ
   pub going : Going step old new left left_now written written_now number rest
 
+-- nothing is left to read of bytes that were told
+abbrev pub IsEmptied : Option (List ℕ) → Option (List ℕ) → Type 0
+IsEmptied None left_now = ⊤
+IsEmptied (Some bytes) left_now = IsAtEnd left_now
+
 -- where no message ended the connection, nothing is left to read
-abbrev pub IsReadOut : List Message → Option (List ℕ) → Type 0
-IsReadOut messages left = list_any (λ m. m.closes) messages ≡ false → IsAtEnd left
+abbrev pub IsReadOut : List Message → Option (List ℕ) → Option (List ℕ) → Type 0
+IsReadOut messages left left_now = list_any (λ m. m.closes) messages ≡ false → IsEmptied left left_now
 
 -- serving a link, by its end
 abbrev pub ServesLink : {S : Type 0} → Service S → S → S → Option (List ℕ) → Option (List ℕ) → Option (List ℕ) → Option (List ℕ)
     → Type 0 → Type 0 → LinkEnd → Type 0
 ServesLink step old new left left_now written written_now read_failed write_failed (ended end) =
-    (all : Whole step old new left left_now written written_now end) × IsReadOut all.messages left_now
+    (all : Whole step old new left left_now written written_now end) × IsReadOut all.messages left left_now
 ServesLink step old new left left_now written written_now read_failed write_failed read_fault =
     ((end : End) × Whole step old new left left_now written written_now end) × read_failed
 ServesLink step old new left left_now written written_now read_failed write_failed write_fault =
