@@ -1,9 +1,10 @@
 // Rosters and their players.
 ghost use Rattle.std.specs.Prelude.{◌≡◌, ◌≤◌, IfOk, List, Some, None, [], ◌∷◌, length, map, option_map, string_bytes};
-ghost use Rattle.std.specs.List.{find, list_any};
+ghost use Rattle.std.specs.Char.{is_ascii_graphic};
+ghost use Rattle.std.specs.List.{list_all, list_any};
 ghost use Rattle.std.specs.Str.{IsUtf8};
 ghost use Rattle.csv.specs.Records.{fields_of};
-ghost use Rattle.pg_roster.specs.Roster.{Reads, ReadsRow, ReadsRows, has_name, has_pass, is_header, is_name, is_name_byte, is_pass, member, member_with, two_of};
+ghost use Rattle.pg_roster.specs.Roster.{Reads, ReadsRow, ReadsRows, has_length, has_name, has_pass, is_header, is_name, is_name_byte, is_pass, member, member_with, two_of};
 
 use crate::fault::RosterFault;
 use crate::records::all_records;
@@ -148,7 +149,14 @@ fn read_row(alloc: Global, row: &ByteRecord, before: &[Player]) -> Result<Player
 fn is_player_name(text: &[u8]) -> bool
     ensures { result ≡ is_name text.now }
 {
-    !text.is_empty() && text.len() <= 32 && text.iter().all(|b| is_byte_of_name(*b))
+    is_short(text, 32) && has_bytes_of_name(text)
+}
+
+/// Whether each byte may stand in a player's name.
+fn has_bytes_of_name(text: &[u8]) -> bool
+    ensures { result ≡ list_all is_name_byte text.now }
+{
+    text.iter().all(|b| is_byte_of_name(*b))
 }
 
 /// Whether a byte may stand in a player's name.
@@ -162,7 +170,21 @@ fn is_byte_of_name(b: u8) -> bool
 fn is_player_pass(text: &[u8]) -> bool
     ensures { result ≡ is_pass text.now }
 {
-    !text.is_empty() && text.len() <= 64 && text.iter().all(|b| b.is_ascii_graphic())
+    is_short(text, 64) && is_graphic(text)
+}
+
+/// Whether each byte is from 0x21 to 0x7E.
+fn is_graphic(text: &[u8]) -> bool
+    ensures { result ≡ list_all is_ascii_graphic text.now }
+{
+    text.iter().all(|b| b.is_ascii_graphic())
+}
+
+/// Whether a text has 1 to `most` bytes.
+fn is_short(text: &[u8], most: usize) -> bool
+    ensures { result ≡ has_length most text.now }
+{
+    !text.is_empty() && text.len() <= most
 }
 
 /// Whether one of these players has this name.
