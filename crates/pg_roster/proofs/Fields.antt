@@ -1,5 +1,5 @@
 -- The fields of a record of two.
-use Rattle.std.proofs.Common.{◌≡◌, ℕ, suc, ◌+◌, List, [], ◌∷◌, length, Option, Some, None, refl, ap, arith}
+use Rattle.std.proofs.Common.{◌≡◌, ℕ, List, [], ◌∷◌, length, Some, None, refl, arith}
 use Rattle.csv.specs.Records.{field_at}
 use Rattle.pg_roster.specs.Roster.{two_of}
 

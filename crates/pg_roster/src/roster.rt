@@ -15,6 +15,7 @@ use std::str;
 
 // How many bytes a roster has at most, and how many players.
 const MOST_BYTES: usize = 65_536;
+
 const MOST_PLAYERS: usize = 256;
 
 /// A player, and the pass by which the server knows them.

@@ -1,4 +1,4 @@
-use Rattle.std.proofs.Common.{◌≡◌, ℕ, length, Some, None, arith, rules}
+use Rattle.std.proofs.Common.{◌≡◌, length, Some, None, rules}
 use Rattle.csv.specs.Records.{field_at, fields_of}
 use Rattle.pg_roster.proofs.Fields.{first-there, second-there, two-whole}
 use Rattle.pg_roster.proofs.roster.two_fields.Goals as goal
