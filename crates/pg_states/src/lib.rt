@@ -1,0 +1,10 @@
+//! The statement of a level: what it says, or the first fault of its formulas.
+#![tactic(auto)]
+
+mod draft;
+mod formulas;
+
+
+
+pub use formulas::StatementFault;
+
