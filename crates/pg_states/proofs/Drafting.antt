@@ -3,7 +3,7 @@ use Rattle.std.proofs.Math.Seq.{drop-cons}
 use Rattle.pg_meaning.specs.Scope.{outermost}
 use Rattle.pg_script.specs.Data.{Part}
 use Rattle.pg_gametext.specs.Forms.{BinderText, variables}
-use Rattle.std.proofs.Common.{◌≡◌, ℕ, ◌+◌, ◌<◌, length, get_or, drop, add-one, arith, Bool, true, false, ◌&&◌, List, [], ◌∷◌, ◌++◌, map, Option, Some, None, refl, sym, ap, ◌∙◌}
+use Rattle.std.proofs.Common.{◌≡◌, ℕ, ◌+◌, ◌<◌, length, get_or, drop, add-one, arith, Bool, true, false, ◌&&◌, List, [], ◌∷◌, ◌++◌, map, Option, Some, None, refl, sym, ap, subst, Err, ◌∙◌}
 use Rattle.std.specs.Prelude.{is_none}
 use Rattle.pg_logic.specs.Declarations.{Name, Declarations}
 use Rattle.pg_logic.specs.Tree.{Fm}
@@ -13,6 +13,11 @@ use Rattle.pg_gametext.specs.Reading.{HalfRead, Binder, var, hyp, texts, with_fo
 use Rattle.pg_syntax.specs.Answers.{Answer, Read, Misshapen, Meaningless, formula_answer}
 use Rattle.pg_faults.specs.View.{sooner}
 use Rattle.pg_faults.specs.Laws.{LeastLaw}
+use Rattle.pg_faults.specs.declared.fault.Fault.{Fault as RustFault}
+use Rattle.pg_faults.specs.View.{fault}
+use Rattle.pg_states.specs.declared.formulas.StatementFault.{StatementFault}
+use Rattle.pg_states.specs.declared.formulas.StatementFault.TheVariants as its
+use Rattle.pg_states.specs.Statements.{Formulates}
 use Rattle.pg_states.specs.Drafts.{live, Known, known}
 
 pub appended : {X : Type 0} (xs ys zs : List X) → (xs ++ ys) ++ zs ≡ xs ++ (ys ++ zs)
@@ -85,6 +90,10 @@ known_behind d xs new bs others o q ws more names binders first =
     ∙ ap (λ (l : Option Fault). known all l (binders_read d (live new) more)) first
     ∙ ap (λ (l : List Name). known all o (binders_read d l more)) (ap live names ∙ live_more xs (texts ws))
     ∙ known_variables bs o ws (binders_read d (live xs ++ texts ws) more)
+
+-- the fault that is answered
+pub fault_of : (a : Answer Fm) (e : StatementFault) (f : RustFault) → e ≡ its.Fault f → Formulates a (Err e) → answer_faults a ≡ fault f ∷ []
+fault_of a e f is h = subst (λ (x : StatementFault). Formulates a (Err x)) is h
 
 -- ---- turns of loops
 

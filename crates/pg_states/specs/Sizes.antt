@@ -14,3 +14,8 @@ abbrev pub height_under : List Binder → ℕ → ℕ
 height_under [] target = target
 height_under (var x ∷ more) target = height_under more target + 1
 height_under (hyp h a ∷ more) target = max (height_of a) (height_under more target) + 1
+
+-- the height of a binder's own formula
+abbrev pub height_in : Binder → ℕ
+height_in (var x) = 0
+height_in (hyp h a) = height_of a

@@ -3,6 +3,7 @@
 
 mod draft;
 mod formulas;
+mod sizes;
 
 
 

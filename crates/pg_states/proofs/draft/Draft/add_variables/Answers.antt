@@ -13,5 +13,5 @@ pub loop-token-preserved : goal.loop-token-preserved
 loop-token-preserved c =
     let here = dropped c.args.tokens.now c.loop-token.token-index _ c.loop-token-test.true in
     (turn _ _ _ _ _ _ (ap (λ (ts : List Token). map Some (texts (words ts))) here) c.in_ok-add_variable.ensures.names c.loop-token.invariant.0,
-     turn _ _ _ _ _ _ (ap (λ (ts : List Token). map (λ (w : Word). var w.text) (words ts)) here) c.in_ok-add_variable.ensures.binders c.loop-token.invariant.1.0,
-     c.in_ok-add_variable.ensures.first ∙ c.loop-token.invariant.1.1)
+     turn _ _ _ _ _ _ (ap (λ (ts : List Token). map (λ (w : Word). var w.text) (words ts)) here) c.in_ok-add_variable.ensures.binders c.loop-token.invariant.1,
+     c.in_ok-add_variable.ensures.first ∙ c.loop-token.invariant.2)
