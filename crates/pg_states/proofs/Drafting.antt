@@ -102,3 +102,6 @@ dropped ts i d lt = drop-cons ts i d lt ∙ ap (λ k. get_or ts i d ∷ drop k t
 
 pub turn : {X : Type 0} (old new whole : List X) (x : X) (now later : List X) → now ≡ x ∷ later → new ≡ old ++ x ∷ [] → old ++ now ≡ whole → new ++ later ≡ whole
 turn old new whole x now later is more before = ap (λ l. l ++ later) more ∙ appended old (x ∷ []) later ∙ ap (λ l. old ++ l) (sym is) ∙ before
+
+pub dropped_as : {T : Type 0} (ts : List T) (i : ℕ) (t : T) → i < length ts → t ≡ get_or ts i t → drop i ts ≡ t ∷ drop (i + 1) ts
+dropped_as ts i t lt is = dropped ts i t lt ∙ ap (λ x. x ∷ drop (i + 1) ts) (sym is)

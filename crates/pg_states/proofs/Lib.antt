@@ -1,3 +1,3 @@
 pub mod Answering
 pub mod Drafting
-pub mod Sizes
+pub mod Counted

@@ -1,8 +1,8 @@
 -- The size of a closed formula by its parts.
-use Rattle.std.proofs.Common.{◌≡◌, ℕ, ◌+◌, ◌==◌, max, Bool, true, false, cond, List, [], ◌∷◌, refl, ap, ◌∙◌}
+use Rattle.std.proofs.Common.{◌≡◌, ℕ, ◌+◌, ◌-◌, ◌^◌, ◌==◌, min, max, arith, Bool, true, false, cond, List, [], ◌∷◌, refl, ap, ◌∙◌}
 use Rattle.pg_logic.specs.Tree.{Tm, free, bound, nought, succ, app, Tms, none, arg, Fm, falsum, eq, pred, and, or, imp, all, ex, nodes, nodes_all, nodes_of, height, height_all, height_of, mapped, mapped_all, mapped_formula, closed_free, kept_bound}
 use Rattle.pg_gametext.specs.Reading.{Binder, var, hyp, closed_from}
-use Rattle.pg_states.specs.Sizes.{nodes_under, height_under}
+use Rattle.pg_states.specs.Sizes.{nodes_under, height_under, height_in}
 
 leaf-nodes : (b : Bool) (d i : ℕ) → nodes (cond b (bound d) (free i)) ≡ 1
 leaf-nodes true d i = refl
@@ -65,3 +65,23 @@ pub height_parts : (k : ℕ) (bs : List Binder) (t : Fm) → height_of (closed_f
 height_parts k [] t = refl
 height_parts k (var x ∷ bs) t = ap (λ n. n + 1) (height_of-closed k 0 (closed_from (k + 1) bs t) ∙ height_parts (k + 1) bs t)
 height_parts k (hyp h a ∷ bs) t = ap (λ n. max (height_of a) n + 1) (height_parts k bs t)
+
+-- ---- turns of loops
+
+nodes_first : (b : Binder) (more : List Binder) (n : ℕ) → nodes_under (b ∷ more) n ≡ nodes_under (b ∷ []) 0 + nodes_under more n
+nodes_first (var x) more n = omega arith
+nodes_first (hyp h a) more n = omega arith
+
+pub nodes_turn : (n sum here whole : ℕ) (b : Binder) (now later : List Binder) → now ≡ b ∷ later → here ≡ min (nodes_under (b ∷ []) 0) (2 ^ 64 - 1)
+    → min (sum + nodes_under now n) (2 ^ 64 - 1) ≡ whole → min (min (sum + here) (2 ^ 64 - 1) + nodes_under later n) (2 ^ 64 - 1) ≡ whole
+nodes_turn n sum here whole b now later is e before = omega (arith, ap (λ (l : List Binder). nodes_under l n) is, nodes_first b later n, e, before)
+
+height_first : (b : Binder) (more : List Binder) (n : ℕ) → height_under (b ∷ more) n ≡ max (height_in b) (height_under more n) + 1
+height_first (var x) more n = omega arith
+height_first (hyp h a) more n = refl
+
+pub height_turn : (n reached depth here whole : ℕ) (b : Binder) (now later : List Binder) → now ≡ b ∷ later → here ≡ min (height_in b) (2 ^ 32 - 1)
+    → min (max reached (depth + height_under now n)) (2 ^ 32 - 1) ≡ whole
+    → min (max (max reached (min (min (depth + 1) (2 ^ 32 - 1) + here) (2 ^ 32 - 1))) (min (depth + 1) (2 ^ 32 - 1) + height_under later n)) (2 ^ 32 - 1) ≡ whole
+height_turn n reached depth here whole b now later is e before =
+    omega (arith, ap (λ (l : List Binder). height_under l n) is, height_first b later n, e, before)
