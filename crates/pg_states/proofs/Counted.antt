@@ -1,8 +1,10 @@
 -- The size of a closed formula by its parts.
-use Rattle.std.proofs.Common.{◌≡◌, ℕ, ◌+◌, ◌-◌, ◌^◌, ◌==◌, min, max, arith, Bool, true, false, cond, List, [], ◌∷◌, refl, ap, ◌∙◌}
+use Rattle.std.proofs.Common.{◌≡◌, ℕ, ◌+◌, ◌-◌, ◌^◌, ◌==◌, min, max, arith, ◌<◌, ◌≤◌, nat_lt, if◌then◌else◌, Option, Some, None, Bool, true, false, cond, List, [], ◌∷◌, refl, ap, ◌∙◌}
 use Rattle.pg_logic.specs.Tree.{Tm, free, bound, nought, succ, app, Tms, none, arg, Fm, falsum, eq, pred, and, or, imp, all, ex, nodes, nodes_all, nodes_of, height, height_all, height_of, mapped, mapped_all, mapped_formula, closed_free, kept_bound}
+use Rattle.std.proofs.lemmas.Bool.Decides.{nat_tests}
+use Rattle.pg_gametext.specs.Faults.{least, fault, Limit, Nodes, Height, size_faults, fault_if, node_limit, height_limit}
 use Rattle.pg_gametext.specs.Reading.{Binder, var, hyp, closed_from}
-use Rattle.pg_states.specs.Sizes.{nodes_under, height_under, height_in}
+use Rattle.pg_states.specs.Sizes.{nodes_under, height_under}
 
 leaf-nodes : (b : Bool) (d i : ℕ) → nodes (cond b (bound d) (free i)) ≡ 1
 leaf-nodes true d i = refl
@@ -72,16 +74,42 @@ nodes_first : (b : Binder) (more : List Binder) (n : ℕ) → nodes_under (b ∷
 nodes_first (var x) more n = omega arith
 nodes_first (hyp h a) more n = omega arith
 
-pub nodes_turn : (n sum here whole : ℕ) (b : Binder) (now later : List Binder) → now ≡ b ∷ later → here ≡ min (nodes_under (b ∷ []) 0) (2 ^ 64 - 1)
-    → min (sum + nodes_under now n) (2 ^ 64 - 1) ≡ whole → min (min (sum + here) (2 ^ 64 - 1) + nodes_under later n) (2 ^ 64 - 1) ≡ whole
-nodes_turn n sum here whole b now later is e before = omega (arith, ap (λ (l : List Binder). nodes_under l n) is, nodes_first b later n, e, before)
+pub nodes_turn : (n sum next here whole : ℕ) (b : Binder) (now later : List Binder) → now ≡ b ∷ later → here ≡ min (nodes_under (b ∷ []) 0) (2 ^ 64 - 1)
+    → next ≡ min (sum + here) (2 ^ 64 - 1) → min (sum + nodes_under now n) (2 ^ 64 - 1) ≡ whole → min (next + nodes_under later n) (2 ^ 64 - 1) ≡ whole
+nodes_turn n sum next here whole b now later is e more before = omega (arith, more, ap (λ (l : List Binder). nodes_under l n) is, nodes_first b later n, e, before)
 
-height_first : (b : Binder) (more : List Binder) (n : ℕ) → height_under (b ∷ more) n ≡ max (height_in b) (height_under more n) + 1
-height_first (var x) more n = omega arith
-height_first (hyp h a) more n = refl
+-- ---- the fault of a size
 
-pub height_turn : (n reached depth here whole : ℕ) (b : Binder) (now later : List Binder) → now ≡ b ∷ later → here ≡ min (height_in b) (2 ^ 32 - 1)
-    → min (max reached (depth + height_under now n)) (2 ^ 32 - 1) ≡ whole
-    → min (max (max reached (min (min (depth + 1) (2 ^ 32 - 1) + here) (2 ^ 32 - 1))) (min (depth + 1) (2 ^ 32 - 1) + height_under later n)) (2 ^ 32 - 1) ≡ whole
-height_turn n reached depth here whole b now later is e before =
-    omega (arith, ap (λ (l : List Binder). height_under l n) is, height_first b later n, e, before)
+by_nodes : (at n h m : ℕ) → n ≡ m → 4096 < m
+    → least (if nat_lt node_limit n then fault at (Limit Nodes n) ∷ [] else fault_if (nat_lt height_limit h) at (Limit Height h)) ≡ Some (fault at (Limit Nodes m))
+by_nodes at n h m e lt =
+    let over : nat_lt 4096 n ≡ true = grind (arith, nat_tests, e, lt) in
+    rw over (ap (λ (k : ℕ). Some (fault at (Limit Nodes k))) e)
+
+by_height : (at n h m : ℕ) → n ≤ 4096 → h ≡ m → 256 < m
+    → least (if nat_lt node_limit n then fault at (Limit Nodes n) ∷ [] else fault_if (nat_lt height_limit h) at (Limit Height h)) ≡ Some (fault at (Limit Height m))
+by_height at n h m few e lt =
+    let fits : nat_lt 4096 n ≡ false = grind (arith, nat_tests, few) in
+    let over : nat_lt 256 h ≡ true = grind (arith, nat_tests, e, lt) in
+    rw (fits, over) (ap (λ (k : ℕ). Some (fault at (Limit Height k))) e)
+
+by_neither : (at n h : ℕ) → n ≤ 4096 → h ≤ 256
+    → least (if nat_lt node_limit n then fault at (Limit Nodes n) ∷ [] else fault_if (nat_lt height_limit h) at (Limit Height h)) ≡ None
+by_neither at n h few low =
+    let fits : nat_lt 4096 n ≡ false = grind (arith, nat_tests, few) in
+    let under : nat_lt 256 h ≡ false = grind (arith, nat_tests, low) in
+    rw (fits, under) refl
+
+pub many : (at : ℕ) (bs : List Binder) (t : Fm) (m : ℕ) → m ≡ min (nodes_under bs (nodes_of t)) (2 ^ 64 - 1) → 4096 < m → m < 2 ^ 32
+    → least (size_faults at (closed_from 0 bs t)) ≡ Some (fault at (Limit Nodes m))
+many at bs t m e lt small = by_nodes at (nodes_of (closed_from 0 bs t)) (height_of (closed_from 0 bs t)) m (omega (arith, nodes_parts 0 bs t, e, small)) lt
+
+pub high : (at : ℕ) (bs : List Binder) (t : Fm) (n m : ℕ) → n ≡ min (nodes_under bs (nodes_of t)) (2 ^ 64 - 1) → n ≤ 4096
+    → m ≡ min (height_under bs (height_of t)) (2 ^ 32 - 1) → 256 < m → m < 2 ^ 32 - 1 → least (size_faults at (closed_from 0 bs t)) ≡ Some (fault at (Limit Height m))
+high at bs t n m e few h lt small =
+    by_height at (nodes_of (closed_from 0 bs t)) (height_of (closed_from 0 bs t)) m (omega (arith, nodes_parts 0 bs t, e, few)) (omega (arith, height_parts 0 bs t, h, small)) lt
+
+pub fitting : (at : ℕ) (bs : List Binder) (t : Fm) (n m : ℕ) → n ≡ min (nodes_under bs (nodes_of t)) (2 ^ 64 - 1) → n ≤ 4096
+    → m ≡ min (height_under bs (height_of t)) (2 ^ 32 - 1) → m ≤ 256 → least (size_faults at (closed_from 0 bs t)) ≡ None
+fitting at bs t n m e few h low =
+    by_neither at (nodes_of (closed_from 0 bs t)) (height_of (closed_from 0 bs t)) (omega (arith, nodes_parts 0 bs t, e, few)) (omega (arith, height_parts 0 bs t, h, low))

@@ -29,11 +29,11 @@ pub(crate) fn size_fault(
     ensures { IfOk result (λ f. found f ≡ least (size_faults at (closed_from 0 (map binder binders.now) (formula target.now)))) }
 {
     let nodes = nodes_in(binders, target);
+    if nodes > u32::MAX as u64 {
+        return Err(StatementFault::OutOfMemory);
+    }
     if nodes > NODE_LIMIT {
-        return match u32::try_from(nodes) {
-            Ok(count) => Ok(limit(at, LimitName::Nodes, count)),
-            Err(_) => Err(StatementFault::OutOfMemory),
-        };
+        return Ok(limit(at, LimitName::Nodes, nodes as u32));
     }
     let height = height_in(binders, target);
     if height == u32::MAX {
