@@ -1,0 +1,11 @@
+//! The statement of a level: what it says, or the first fault of its formulas.
+#![tactic(auto)]
+
+mod draft;
+mod formulas;
+mod sizes;
+
+
+
+pub use formulas::StatementFault;
+
