@@ -1,0 +1,4 @@
+pub mod Answered
+pub mod Heights
+pub mod Named
+pub mod Small
