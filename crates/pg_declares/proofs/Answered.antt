@@ -1,15 +1,12 @@
 -- What is answered of a part, from what its tokens spell and its size.
-use Rattle.std.proofs.Common.{◌≡◌, ℕ, List, [], ◌∷◌, ◌++◌, refl, ap, sym, ◌∙◌, subst, Option, Some, None, Result, Ok, Err}
+use Rattle.std.proofs.Common.{◌≡◌, List, [], ◌∷◌, ◌++◌, ap, sym, ◌∙◌, Option, Some, None, Err}
 use Rattle.pg_syntax.specs.Answers.{Answer, Read, Misshapen, Meaningless, Gives}
 use Rattle.pg_syntax.specs.declared.fault.SyntaxFault.{SyntaxFault}
 use Rattle.pg_syntax.specs.declared.fault.SyntaxFault.TheVariants as syntax_fault
 use Rattle.pg_grammar.specs.Faults as shapes
 use Rattle.pg_meaning.specs.Faults as meaning
-use Rattle.pg_logic.specs.Tree.{Tm, Fm}
 use Rattle.pg_gametext.specs.Faults as text
 use Rattle.pg_gametext.specs.Faults.{least, answer_faults, answer_value}
-use Rattle.pg_faults.specs.declared.fault.Fault.{Fault}
-use Rattle.pg_faults.specs.View.{fault, found}
 use Rattle.pg_declares.specs.Judged.{Reads, IsUnread, Judges}
 use Rattle.pg_declares.specs.declared.unread.Unread.{Unread}
 use Rattle.pg_declares.specs.declared.unread.Unread.TheVariants as why

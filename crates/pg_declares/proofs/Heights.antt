@@ -2,7 +2,7 @@
 use Rattle.std.proofs.Common.{◌≡◌, ◌≤◌, ◌+◌, ◌*◌, ◌-◌, ◌^◌, ℕ, ap, ◌∙◌, arith, min}
 use Rattle.pg_logic.specs.Tree.{Tm, free, bound, nought, succ, app, Tms, none, arg, Fm, falsum, eq, pred, and, or, imp, all, ex, nodes, nodes_all, nodes_of, height, height_all, height_of}
 use Rattle.pg_logic.specs.Axioms.{constant_axiom}
-use Rattle.pg_gametext.specs.Faults.{Fault, least, size_faults}
+use Rattle.pg_gametext.specs.Faults.{least, size_faults}
 use Rattle.pg_declares.specs.Judged.{sized}
 
 mutual

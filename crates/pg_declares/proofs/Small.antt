@@ -1,9 +1,9 @@
 -- A term that is read has no more nodes than tokens, and a formula no more than three for each.
-use Rattle.std.proofs.Common.{◌≡◌, ◌≤◌, ℕ, ◌+◌, ◌*◌, Bool, true, false, List, [], ◌∷◌, ◌++◌, length, sym, subst, arith, length-append}
+use Rattle.std.proofs.Common.{◌≡◌, ◌≤◌, ℕ, ◌+◌, ◌*◌, Bool, true, false, List, [], ◌∷◌, length, sym, subst, arith, length-append}
 use Rattle.std.specs.Prelude.{Option, Some, None, if◌then◌else◌}
 use Rattle.pg_base.specs.Tokens.{Word as Lexeme}
 use Rattle.pg_logic.specs.Tree.{Tm, free, bound, nought, succ, app, Tms, none, arg, Fm, falsum, eq, pred, and, or, imp, all, ex, nodes, nodes_all, nodes_of}
-use Rattle.pg_grammar.specs.Shapes.{Sym, Close, Comma, Colon, NatSign, Sign, Op, Implies, Or, And, Equal, NotEqual, LessEqual, Less, Plus, Times, Power, Quantifier, ForAll, Exists, Word, Group, Bracket, Binders, Plain, Typed, Grouped, names, plain, typed, bracketed, all_bracketed, binders, Shape, Named, Numeral, Falsum, Paren, Next, App, Neg, Quant, Binary, spelled}
+use Rattle.pg_grammar.specs.Shapes.{Sym, Close, Comma, Colon, NatSign, Sign, Implies, Or, And, Equal, NotEqual, LessEqual, Less, Plus, Times, Power, Quantifier, ForAll, Exists, Word, Group, Bracket, Binders, Plain, Typed, Grouped, names, plain, typed, bracketed, all_bracketed, binders, Shape, Named, Numeral, Falsum, Paren, Next, App, Neg, Quant, Binary, spelled}
 use Rattle.pg_grammar.specs.Printing.{group_words, bracket_words, binder_words}
 use Rattle.pg_meaning.specs.Scope.{Scope, in_body, Thing, Binder, Variable, Function, Predicate, function_named, predicate_named, looked_up, is_zero, sign_text}
 use Rattle.pg_meaning.specs.Meaning.{function_term, thing_term, two, with_last, applied, term_of, predicate_formula, thing_formula, holds_at, quantified, bound_by, formula_of}

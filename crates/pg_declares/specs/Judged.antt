@@ -1,5 +1,5 @@
 -- What is answered of a part of a game text: what it means, or its first fault.
-use Rattle.std.specs.Prelude.{ℕ, ◌≡◌, ◌≢◌, List, [], ◌∷◌, All, Option, Some, None, Result, Ok, Err, if◌then◌else◌, nat_lt}
+use Rattle.std.specs.Prelude.{ℕ, ◌≡◌, ◌≢◌, Bool, true, List, [], ◌∷◌, All, Option, Some, None, Result, Ok, Err, if◌then◌else◌, nat_lt}
 use Rattle.pg_base.specs.Tokens.{Word}
 use Rattle.pg_base.specs.Spans.{IsTokenText}
 use Rattle.pg_script.specs.View.{words}
@@ -7,8 +7,13 @@ use Rattle.pg_forms.specs.declared.parts.Span.{Span}
 use Rattle.pg_syntax.specs.Answers.{Answer, Read}
 use Rattle.pg_syntax.specs.declared.fault.SyntaxFault.{SyntaxFault}
 use Rattle.pg_syntax.specs.declared.fault.SyntaxFault.TheVariants as syntax_fault
+use Rattle.pg_gametext.specs.Forms.{Mark, AtMost}
 use Rattle.pg_gametext.specs.Faults as text
 use Rattle.pg_faults.specs.View.{fault}
+use Rattle.pg_arith.specs.declared.declaring.DeclareFault.{DeclareFault}
+use Rattle.pg_arith.specs.declared.declaring.DeclareFault.TheVariants as refusal
+use Rattle.pg_declares.specs.declared.unread.Undeclared.{Undeclared}
+use Rattle.pg_declares.specs.declared.unread.Undeclared.TheVariants as untold
 use Rattle.pg_declares.specs.declared.unread.Unread.{Unread}
 use Rattle.pg_declares.specs.declared.unread.Unread.TheVariants as why
 
@@ -47,3 +52,18 @@ abbrev pub sized : (at nodes height : ℕ) → List text.Fault
 sized at nodes height =
     if nat_lt text.node_limit nodes then text.fault at (text.Limit text.Nodes nodes) ∷ []
     else text.fault_if (nat_lt text.height_limit height) at (text.Limit text.Height height)
+
+-- a declaration of what fits is refused for its names, where one is taken, and for want of memory
+abbrev pub Refuses : (taken : Bool) → DeclareFault → Type 0
+Refuses taken refusal.NameTaken = taken ≡ true
+Refuses taken refusal.OutOfMemory = Unit {0}
+Refuses taken _ = ⊥
+
+-- the same of what is told
+abbrev pub IsTaken : (taken : Bool) → Undeclared → Type 0
+IsTaken taken untold.NameTaken = taken ≡ true
+IsTaken taken untold.OutOfMemory = Unit {0}
+
+-- the first spelling of a sign that stands in a text so
+abbrev pub sign_text : Mark → List ℕ → List ℕ
+sign_text m written = elim m [ AtMost ↦ 226 ∷ 137 ∷ 164 ∷ [] | _ ↦ written ]

@@ -2,11 +2,12 @@
 #![tactic(auto)]
 
 mod constant;
+mod naming;
 mod predicate;
 mod reading;
 mod sizes;
 mod unread;
 
-pub use constant::read_constant;
-pub use predicate::read_predicate;
+pub use constant::{declare_constant, read_constant};
+pub use predicate::{declare_predicate, read_predicate};
 pub use unread::{Undeclared, Unread};
