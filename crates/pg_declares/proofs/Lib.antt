@@ -1,0 +1,6 @@
+pub mod Answered
+pub mod Fits
+pub mod Heights
+pub mod Named
+pub mod Refusals
+pub mod Small
