@@ -1,5 +1,5 @@
 -- The answer behind all binders.
-use Rattle.std.proofs.Common.{◌≡◌, ◌∙◌, ℕ, Bool, true, false, if◌then◌else◌, List, [], ◌∷◌, ◌++◌, map, Option, Some, None, Result, Ok, Err, refl, sym, ap, subst, length, arith}
+use Rattle.std.proofs.Common.{◌≡◌, ◌∙◌, ℕ, Bool, if◌then◌else◌, List, [], ◌∷◌, ◌++◌, map, Option, Some, None, Result, Ok, Err, refl, sym, ap, subst, length, arith}
 use Rattle.std.specs.Prelude.{is_none}
 use Rattle.pg_logic.specs.Tree.{Fm}
 use Rattle.pg_logic.specs.Declarations.{Name, Declarations}
@@ -16,7 +16,7 @@ use Rattle.pg_faults.proofs.Least.{least-law}
 use Rattle.pg_states.specs.declared.draft.Draft.{Draft}
 use Rattle.pg_states.specs.declared.formulas.StatementFault.{StatementFault}
 use Rattle.pg_states.specs.declared.formulas.StatementFault.TheVariants as its
-use Rattle.pg_states.specs.Drafts.{Known, variables_of, IsDraftOf}
+use Rattle.pg_states.specs.Drafts.{Known, IsDraftOf}
 use Rattle.pg_states.specs.Statements.{IsReadWith, IsRead, Tells, IsSized}
 
 abbrev Answered : Type 0

@@ -11,4 +11,4 @@ pub returns-in-Some : goal.returns-in-Some
 returns-in-Some c =
     let h = binders_read (declarations c.args.sig.now) [] (map binder c.args.text.now.binders.items) in
     read_as (declarations c.args.sig.now) c.args.at (statement c.args.text.now) _ c.with_target.result (ap (option_map part) c.in-Some.is)
-        (c.with_target.ensures h (subst (λ (bs : List BinderText). IsDraftOf (binders_read (declarations c.args.sig.now) [] (map binder bs)) c.in-Ok.draft) c.as_slice.ensures.value c.in-Ok.ensures))
+    (c.with_target.ensures h (subst (λ (bs : List BinderText). IsDraftOf (binders_read (declarations c.args.sig.now) [] (map binder bs)) c.in-Ok.draft) c.as_slice.ensures.value c.in-Ok.ensures))

@@ -7,4 +7,4 @@ use Rattle.pg_states.proofs.statements.whole.Goals as goal
 pub returns-in-None : goal.returns-in-None
 returns-in-None c h a g e =
     of_answer c.args.at h (formula c.args.target) c.sized.result a e
-        (whole_sized c.args.at h c.args.draft (formula c.args.target) c.sized.result g (ap found c.in-None.is) c.sized.ensures)
+    (whole_sized c.args.at h c.args.draft (formula c.args.target) c.sized.result g (ap found c.in-None.is) c.sized.ensures)

@@ -20,7 +20,7 @@ returns-in-Err-Fault c h g =
     let d = declarations c.args.sig.now in
     let a = formula_of_part h.vars d (part c.args.span) in
     told c.args.at h (Some a) (sooner (found c.args.draft.first) (Some (fault c.in-Err-Fault.fault))) c.broken.result
-        (subst (λ (f : Fault). Tells (sooner (found c.args.draft.first) (Some (fault f))) c.broken.result) c.in-Err-Fault.fault-is c.broken.ensures)
-        (target_broken c.args.at h c.args.draft a (fault c.in-Err-Fault.fault) g
-            (ap answer_faults (scope_is h c.args.draft d (part c.args.span) g)
-            ∙ fault_of _ c.in-Err-Fault.field-0 c.in-Err-Fault.fault c.in-Err-Fault.field-0-is c.in-Err-Fault.ensures))
+    (subst (λ (f : Fault). Tells (sooner (found c.args.draft.first) (Some (fault f))) c.broken.result) c.in-Err-Fault.fault-is c.broken.ensures)
+    (target_broken c.args.at h c.args.draft a (fault c.in-Err-Fault.fault) g
+    (ap answer_faults (scope_is h c.args.draft d (part c.args.span) g)
+    ∙ fault_of _ c.in-Err-Fault.field-0 c.in-Err-Fault.fault c.in-Err-Fault.field-0-is c.in-Err-Fault.ensures))
