@@ -1,5 +1,5 @@
 -- Two tests, one behind the other.
-use Rattle.std.proofs.Common.{◌≡◌, ◌==◌, ◌&&◌, ℕ, Bool, true, false, nat_eq, arith}
+use Rattle.std.proofs.Common.{◌≡◌, ◌==◌, ◌&&◌, ℕ, Bool, nat_eq, arith}
 use Rattle.std.proofs.lemmas.Bool.Decides.{nat_tests}
 
 pub both : (a b : ℕ) (x r : Bool) → a ≡ b → r ≡ x → r ≡ (a == b) && x

@@ -1,5 +1,5 @@
 -- How many hints there may still be.
-use Rattle.std.specs.Prelude.{ℕ, zero, suc, ◌+◌, ◌-◌, Bool, true, false, List, [], ◌∷◌, length, Result, Ok, Err, if◌then◌else◌, codes}
+use Rattle.std.specs.Prelude.{ℕ, zero, suc, Bool, List, [], ◌∷◌, Result, Ok, Err, if◌then◌else◌, codes}
 use Rattle.pg_base.specs.Tokens.{Word}
 use Rattle.pg_gametext.specs.Commands.{is_word}
 

@@ -1,10 +1,10 @@
 -- What a block is, and its first fault.
-use Rattle.std.specs.Prelude.{◌≡◌, ◌<◌, ◌≤◌, ℕ, ◌+◌, List, [], ◌++◌, length, map, Option, Some, None, option_map, Result, Ok, Err}
+use Rattle.std.specs.Prelude.{◌≡◌, List, [], map, Option, Some, option_map, Result, Ok, Err}
 use Rattle.pg_script.specs.Data.{Part, Entry}
 use Rattle.pg_script.specs.View.{entry}
 use Rattle.pg_script.specs.declared.item.Script.{Script}
 use Rattle.pg_gametext.specs.Faults.{least}
-use Rattle.pg_gametext.specs.Checks.{block_faults, block_hints, hint_faults}
+use Rattle.pg_gametext.specs.Checks.{block_faults}
 use Rattle.pg_gametext.specs.Game.{sample_of}
 use Rattle.pg_faults.specs.View.{fault}
 use Rattle.pg_hints.specs.declared.samples.SampleFault.{SampleFault}

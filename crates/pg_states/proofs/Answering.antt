@@ -1,5 +1,5 @@
 -- What the fault of an answer is in a game text.
-use Rattle.std.proofs.Common.{◌≡◌, ℕ, [], ◌∷◌, refl, sym, ap}
+use Rattle.std.proofs.Common.{◌≡◌, ℕ, [], ◌∷◌, ap}
 use Rattle.pg_logic.specs.Tree.{Fm}
 use Rattle.pg_grammar.specs.Faults as shapes
 use Rattle.pg_meaning.specs.Faults as meaning

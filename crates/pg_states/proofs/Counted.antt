@@ -1,5 +1,5 @@
 -- The size of a closed formula by its parts.
-use Rattle.std.proofs.Common.{◌≡◌, ℕ, ◌+◌, ◌-◌, ◌^◌, ◌==◌, min, max, arith, ◌<◌, ◌≤◌, nat_lt, if◌then◌else◌, Option, Some, None, Bool, true, false, cond, List, [], ◌∷◌, refl, ap, ◌∙◌}
+use Rattle.std.proofs.Common.{◌≡◌, ℕ, ◌+◌, ◌-◌, ◌^◌, ◌==◌, min, max, arith, ◌<◌, ◌≤◌, nat_lt, if◌then◌else◌, Some, None, Bool, true, false, cond, List, [], ◌∷◌, refl, ap, ◌∙◌}
 use Rattle.pg_logic.specs.Tree.{Tm, free, bound, nought, succ, app, Tms, none, arg, Fm, falsum, eq, pred, and, or, imp, all, ex, nodes, nodes_all, nodes_of, height, height_all, height_of, mapped, mapped_all, mapped_formula, closed_free, kept_bound}
 use Rattle.std.proofs.lemmas.Bool.Decides.{nat_tests}
 use Rattle.pg_gametext.specs.Faults.{least, fault, Limit, Nodes, Height, size_faults, fault_if, node_limit, height_limit}

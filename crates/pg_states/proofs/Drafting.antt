@@ -3,7 +3,7 @@ use Rattle.std.proofs.Math.Seq.{drop-cons}
 use Rattle.pg_meaning.specs.Scope.{outermost}
 use Rattle.pg_script.specs.Data.{Part}
 use Rattle.pg_gametext.specs.Forms.{BinderText, variables}
-use Rattle.std.proofs.Common.{◌≡◌, ℕ, ◌+◌, ◌<◌, length, get_or, drop, add-one, arith, Bool, true, false, ◌&&◌, List, [], ◌∷◌, ◌++◌, map, Option, Some, None, refl, sym, ap, subst, Err, ◌∙◌}
+use Rattle.std.proofs.Common.{◌≡◌, ℕ, ◌+◌, ◌<◌, length, get_or, drop, add-one, arith, false, ◌&&◌, List, [], ◌∷◌, ◌++◌, map, Option, Some, None, refl, sym, ap, subst, Err, ◌∙◌}
 use Rattle.std.specs.Prelude.{is_none}
 use Rattle.pg_logic.specs.Declarations.{Name, Declarations}
 use Rattle.pg_logic.specs.Tree.{Fm}

@@ -1,3 +1,4 @@
 pub mod Answering
 pub mod Drafting
 pub mod Counted
+pub mod Ending

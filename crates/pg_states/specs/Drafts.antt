@@ -1,5 +1,5 @@
 -- What is read of a statement's binders so far.
-use Rattle.std.specs.Prelude.{◌≡◌, ℕ, Bool, true, false, ◌&&◌, List, [], ◌∷◌, ◌++◌, map, Option, Some, None, is_none}
+use Rattle.std.specs.Prelude.{◌≡◌, Bool, ◌&&◌, List, [], ◌∷◌, ◌++◌, map, Option, Some, None, is_none}
 use Rattle.pg_logic.specs.Declarations.{Name}
 use Rattle.pg_gametext.specs.Faults as text
 use Rattle.pg_gametext.specs.Forms.{BinderText, variables, hypothesis}

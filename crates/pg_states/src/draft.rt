@@ -43,7 +43,11 @@ impl Draft {
     }
 
     /// One more variable.
-    pub(crate) fn add_variable(&mut self, alloc: Global, token: &Token<'_>) -> Result<(), AllocError>
+    pub(crate) fn add_variable(
+        &mut self,
+        alloc: Global,
+        token: &Token<'_>,
+    ) -> Result<(), AllocError>
         requires { IsNamed token.now }
         ensures names { OnOk result (self.new.names.vars.items ≡ self.old.names.vars.items ++ Some (word token.now).text ∷ []) }
         ensures binders { OnOk result (map binder self.new.binders.items ≡ map binder self.old.binders.items ++ var (word token.now).text ∷ []) }
@@ -57,7 +61,11 @@ impl Draft {
     }
 
     /// More variables.
-    pub(crate) fn add_variables(&mut self, alloc: Global, tokens: &[Token<'_>]) -> Result<(), AllocError>
+    pub(crate) fn add_variables(
+        &mut self,
+        alloc: Global,
+        tokens: &[Token<'_>],
+    ) -> Result<(), AllocError>
         requires { All IsNamed tokens.now }
         ensures names { OnOk result (self.new.names.vars.items ≡ self.old.names.vars.items ++ map Some (texts (words tokens.now))) }
         ensures binders { OnOk result (map binder self.new.binders.items ≡ map binder self.old.binders.items ++ map (λ (w : Word). var w.text) (words tokens.now)) }

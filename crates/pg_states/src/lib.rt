@@ -4,8 +4,7 @@
 mod draft;
 mod formulas;
 mod sizes;
-
-
+mod statements;
 
 pub use formulas::StatementFault;
-
+pub use statements::read_statement;

@@ -1,4 +1,4 @@
-use Rattle.std.proofs.Common.{◌≡◌, ◌∙◌, sym, Ok, Err}
+use Rattle.std.proofs.Common.{◌∙◌, sym, Ok, Err}
 use Rattle.pg_hints.proofs.Counts.{turn}
 use Rattle.pg_hints.proofs.hints.+left_behind.Goals as goal
 

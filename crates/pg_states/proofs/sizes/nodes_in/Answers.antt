@@ -1,4 +1,4 @@
-use Rattle.std.proofs.Common.{◌∙◌, List, ap, map}
+use Rattle.std.proofs.Common.{List, ap, map}
 use Rattle.pg_syntax.specs.declared.statement.Binder.{Binder as StatedBinder}
 use Rattle.pg_gametext.specs.Reading.{binder}
 use Rattle.pg_states.proofs.Counted.{nodes_turn}

@@ -16,6 +16,6 @@ returns-in_ok-add_variables-in-Variables-clause-live c alive =
 pub returns-in_ok-add_variables-in-Variables-clause-known : goal.returns-in_ok-add_variables-in-Variables-clause-known
 returns-in_ok-add_variables-in-Variables-clause-known c alive more =
     known_behind (declarations c.args.sig.now) c.args.self.now.names.vars.items c.add_variables.new.self.names.vars.items (map binder c.args.self.now.binders.items)
-        (map binder c.add_variables.new.self.binders.items) (found c.args.self.now.first) (found c.add_variables.new.self.first) (words c.in-Variables.tokens.now) more
-        c.in_ok-add_variables-in-Variables.ensures.names c.in_ok-add_variables-in-Variables.ensures.binders (ap found c.in_ok-add_variables-in-Variables.ensures.first)
+    (map binder c.add_variables.new.self.binders.items) (found c.args.self.now.first) (found c.add_variables.new.self.first) (words c.in-Variables.tokens.now) more
+    c.in_ok-add_variables-in-Variables.ensures.names c.in_ok-add_variables-in-Variables.ensures.binders (ap found c.in_ok-add_variables-in-Variables.ensures.first)
     ∙ ap (λ (b : BinderText). known (map binder c.args.self.now.binders.items) (found c.args.self.now.first) (binders_read (declarations c.args.sig.now) (live c.args.self.now.names.vars.items) (binder_text b ∷ more))) (sym c.in-Variables.is)
