@@ -1,5 +1,5 @@
 // What is asked of a block's tokens.
-ghost use Rattle.std.specs.Prelude.{◌≡◌, ◌<◌, ◌≤◌, ◌^◌, ◌==◌, ◌&&◌, length, codes};
+ghost use Rattle.std.specs.Prelude.{◌≡◌, ◌<◌, ◌≤◌, ◌^◌, ◌==◌, ◌&&◌, codes};
 ghost use Rattle.pg_base.specs.Tokens.{word};
 ghost use Rattle.pg_base.specs.Spans.{AreInOrder, AreTokens, token_end};
 ghost use Rattle.pg_script.specs.Scripts.{last_end};
@@ -7,7 +7,6 @@ ghost use Rattle.pg_script.specs.View.{words};
 ghost use Rattle.pg_gametext.specs.Checks.{is_sorry, opens_at, span};
 ghost use Rattle.pg_gametext.specs.Commands.{is_word};
 ghost use Rattle.pg_gametext.specs.Forms.{is_open};
-ghost use Rattle.pg_hints.specs.Counts.{is_hint, words_of_hints};
 ghost use Rattle.pg_forms.specs.View.{part};
 
 use pg_base::{Token, TokenKind};
@@ -81,24 +80,4 @@ fn last_end(from: u32, end: u32, tokens: &[Token<'_>]) -> u32
         reached = token_end(token);
     }
     reached
-}
-
-/// How many of these tokens are the word `Hint`.
-pub(crate) fn words_of_hints(tokens: &[Token<'_>]) -> usize
-    ensures counts { result ≡ words_of_hints (words tokens.now) }
-    ensures within { result ≤ length tokens.now }
-{
-    let mut count: usize = 0;
-    for token in tokens {
-        if is_hint(token) {
-            count += 1;
-        }
-    }
-    count
-}
-
-fn is_hint(token: &Token<'_>) -> bool
-    ensures { result ≡ is_hint (word token.now) }
-{
-    matches!(token.kind, TokenKind::Name) && token.text == "Hint"
 }
