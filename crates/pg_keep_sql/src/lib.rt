@@ -1,7 +1,0 @@
-//! A keeper of a class's rows over an SQL database, in a file or in memory.
-#![tactic(auto)]
-
-mod keeper;
-mod statements;
-
-pub use keeper::SqlKeeper;
