@@ -22,10 +22,10 @@ use Rattle.pg_reduction.specs.declared.cause.ActFault.{ActFault}
 use Rattle.pg_reduction.specs.declared.cause.ActFault.TheVariants.{Stop, OutOfMemory}
 use Rattle.pg_reduction.specs.declared.reduction.Reduction.{Reduction}
 use Rattle.pg_reduction.specs.View.{cause_of}
-use Rattle.pg_reduction.specs.Doing.{IsReady, Does, Makes, Yields}
+use Rattle.pg_reduction.specs.Doing.{IsReady, Does, DoesWithin, Makes, MakesWithin, Yields}
 use Rattle.pg_acts.specs.Named.{asserted_as, split_as, swapped_at, swapping}
 use Rattle.pg_acts.specs.Opening.{opening, opened_proof}
-use Rattle.pg_reduction.proofs.Does.{does}
+use Rattle.pg_reduction.proofs.Does.{does, does-within}
 use Rattle.pg_acts.proofs.Justified.{j-rfl, j-exfalso, j-intro, j-left, j-right, j-both, j-witness, j-symm, j-symm_at, j-assert, j-by_cases, j-cases_hyp}
 
 module _ (l : Lookup) (g : Goal) (ready : IsReady l g) where
@@ -53,10 +53,10 @@ module _ (l : Lookup) (g : Goal) (ready : IsReady l g) where
   unfolding new_goals
   does-both r m = does l g ready Constructor (both_of g (goal_form l g)) (opening l g ++ pair ∷ []) refl (j-both l g ready) r m
 
-  pub does-witness : (p : Part) (t : Tm) → term_there l g p ≡ Ok t → (r : Result Reduction ActFault) → Makes (witness_of g t (goal_form l g)) (opening l g ++ under_exi t ∷ []) r → Does l g (Witness p) r
+  pub does-witness : (p : Part) (t : Tm) → term_there l g p ≡ Ok t → (r : Result Reduction ActFault) → MakesWithin (witness_of g t (goal_form l g)) (opening l g ++ under_exi t ∷ []) r → DoesWithin l g (Witness p) r
   unfolding new_goals
   does-witness p t is r m =
-      does l g ready (Witness p) (witness_of g t (goal_form l g)) (opening l g ++ under_exi t ∷ []) (ap (λ x. and_then x (λ t. witness_of g t (goal_form l g))) is) (j-witness l g ready p t is) r m
+      does-within l g ready (Witness p) (witness_of g t (goal_form l g)) (opening l g ++ under_exi t ∷ []) (ap (λ x. and_then x (λ t. witness_of g t (goal_form l g))) is) (j-witness l g ready p t is) r m
 
   pub does-symm : (r : Result Reduction ActFault) → Makes (symmetric g) (symm_frames (length g.hyps) g.target) r → Does l g Symm r
   unfolding new_goals

@@ -2,10 +2,12 @@
 use Rattle.std.proofs.Common.{◌≡◌, subst, ◌≢◌, ℕ, zero, suc, ◌+◌, List, [], ◌∷◌, length, drop, Some, None, refl, arith, ap, sym, ◌∙◌}
 use Rattle.pg_moves.specs.Frames.{Frame}
 use Rattle.pg_reduction.specs.declared.cause.ActFault.{ActFault}
+use Rattle.pg_reduction.specs.declared.cause.ActFault.TheVariants.{Stop, OutOfMemory}
+use Rattle.pg_reduction.specs.View.{itself}
 use Rattle.pg_reduction.specs.declared.reduction.Reduction.{Reduction}
-use Rattle.pg_reduction.specs.Doing.{Makes}
+use Rattle.pg_reduction.specs.Doing.{Makes, Yields}
 use Rattle.pg_acts.specs.Named.{second_part}
-use Rattle.std.specs.Prelude.{Result, Ok, Err, All, slice_get, slice_index_or}
+use Rattle.std.specs.Prelude.{Result, Ok, Err, IsErr, IsErrAnd, All, slice_get, slice_index_or}
 use Rattle.pg_base.specs.Tokens.{Word, word}
 use Rattle.pg_base.specs.declared.token.Token.{Token}
 use Rattle.pg_script.specs.View.{words}
@@ -68,3 +70,20 @@ some-made l g g1 h z ts us a x y n ex eg eu en ey =
     ∙ ap (λ vs. and_then (new_name l (live_names g1) vs h) (λ y. Ok (with_hyp y body g1 ∷ []))) (sym (words-rest ts us eu))
     ∙ ap (λ r. and_then r (λ y. Ok (with_hyp y body g1 ∷ []))) ey
     ∙ ap (λ n. Ok (with_hyp y (opened_formula (free n) a) g1 ∷ [])) (sym en)
+
+-- the name of the hypothesis is refused, behind the variable's
+pub some-stops : (l : Lookup) (g g1 : Goal) (h z : Name) (ts us : List Token) (a : Fm) (x : Name) (fs : List Frame) (f : ActFault) (r : Result Reduction ActFault) → new_name l (live_names g) (words ts) z ≡ Ok x →
+    g1 ≡ with_var x g → us ≡ drop 1 ts → Yields itself (new_name l (live_names g1) (words us) h) (Err f) → IsErr r × IsErrAnd r (λ e. e ≡ f) → Makes (some_part l g h (words ts) z a) fs r
+some-stops l g g1 h z ts us a x fs f (Ok made) ex eg eu y is = cc
+some-stops l g g1 h z ts us a x fs f (Err e) ex eg eu y is = subst (λ e. Makes (some_part l g h (words ts) z a) fs (Err e)) (sym is.1) (go f y)
+  where
+    body : Fm
+    body = opened_formula (free (length g.vars)) a
+
+    go : (f : ActFault) → Yields itself (new_name l (live_names g1) (words us) h) (Err f) → Makes (some_part l g h (words ts) z a) fs (Err f)
+    go (Stop c) q =
+        ap (λ r. and_then r (λ x. and_then (new_name l (live_names (with_var x g)) (drop 1 (words ts)) h) (λ y. Ok (with_hyp y body (with_var x g) ∷ [])))) ex
+        ∙ ap (λ q. and_then (new_name l (live_names q) (drop 1 (words ts)) h) (λ y. Ok (with_hyp y body q ∷ []))) (sym eg)
+        ∙ ap (λ vs. and_then (new_name l (live_names g1) vs h) (λ y. Ok (with_hyp y body g1 ∷ []))) (sym (words-rest ts us eu))
+        ∙ ap (λ r. and_then r (λ y. Ok (with_hyp y body g1 ∷ []))) q
+    go OutOfMemory q = tt

@@ -117,7 +117,9 @@ fn asserted(
 {
     let name = given_name(alloc, goal, name, lookup)?;
     let first = goal.aimed(alloc, boxed(alloc, a.get())?)?;
-    let second = goal.copied(alloc)?.with_hyp(name, boxed(alloc, a.get())?)?;
+    let second = goal
+        .copied(alloc)?
+        .with_hyp(alloc, name, boxed(alloc, a.get())?)?;
     let known = hyp_count(goal);
     let last = Frame::Lemma(a, known);
     Ok(two(alloc, Items::new(alloc), last, first, second)?)
@@ -156,10 +158,12 @@ fn split(
 {
     let name = given_name(alloc, goal, name, lookup)?;
     let same = name.copied(alloc)?;
-    let first = goal.copied(alloc)?.with_hyp(name, boxed(alloc, a.get())?)?;
+    let first = goal
+        .copied(alloc)?
+        .with_hyp(alloc, name, boxed(alloc, a.get())?)?;
     let second = goal
         .copied(alloc)?
-        .with_hyp(same, negation(alloc, a.get())?)?;
+        .with_hyp(alloc, same, negation(alloc, a.get())?)?;
     let not = negation(alloc, a.get())?;
     let last = Frame::Split(a, not, Boxed::new(alloc, Proof::Lem)?);
     Ok(two(alloc, Items::new(alloc), last, first, second)?)

@@ -200,7 +200,7 @@ pub fn with_one_more(
     ensures { IfOk result (λ g. goal_of g ≡ with_hyp name (formula a.now) (goal_of goal.now)) }
 {
     let a = boxed(alloc, a)?;
-    goal.copied(alloc)?.with_hyp(name, a)
+    goal.copied(alloc)?.with_hyp(alloc, name, a)
 }
 
 /// The left side of a conjunction that `d` proves, whose right side is `b`.

@@ -1,5 +1,5 @@
 // The acts on the form of the target.
-ghost use Rattle.std.specs.Prelude.{◌≡◌, ◌≢◌, ◌<◌, ◌^◌, ◌++◌, ◌∷◌, [], All, Ok, IfOk, length};
+ghost use Rattle.std.specs.Prelude.{◌≡◌, ◌≢◌, ◌≤◌, ◌<◌, ◌^◌, ◌++◌, ◌∷◌, [], All, Ok, IfOk, length};
 ghost use Rattle.pg_base.specs.Spans.{IsTokenText};
 ghost use Rattle.pg_base.specs.Tokens.{Word as Lexeme, word};
 ghost use Rattle.pg_logic.specs.Kernel as logic;
@@ -14,17 +14,18 @@ ghost use Rattle.pg_moves.specs.Framing.{intro_frame};
 ghost use Rattle.pg_moves.specs.Goals.{aimed, with_hyp, with_var};
 ghost use Rattle.pg_goal.specs.View.{goal_of, lookup_of};
 ghost use Rattle.pg_frames.specs.View.{frames_of};
-ghost use Rattle.pg_reduction.specs.Doing.{IsReady, Does, Has, Makes};
+ghost use Rattle.pg_reduction.specs.Doing.{IsReady, Does, DoesWithin, Has, Makes, MakesWithin};
 ghost use Rattle.pg_acts.specs.Opening.{opening};
 ghost use Rattle.pg_reduction.specs.View.{cause_of};
 
 use crate::unfolding::{Form, target_form};
 use pg_base::Token;
 use pg_frames::Frame;
-use pg_goal::{Goal, Lookup};
+use pg_goal::{Goal, Lookup, opened_size};
 use pg_kernel::Proof;
 use pg_reduction::{
-    ActFault, Cause, Reduction, boxed, given_name, one, shut, term_there, two, var_count,
+    ActFault, Cause, Reduction, boxed, given_name, large_nodes, one, shut, target_limit,
+    term_there, two, var_count,
 };
 use pg_script::Piece;
 use pg_terms::{Formula, Name, Term};
@@ -222,13 +223,14 @@ fn with_hypothesis(
         alloc,
         opening,
         Frame::UnderImpi,
-        next.with_hyp(name, known)?,
+        next.with_hyp(alloc, name, known)?,
     )
 }
 
 /// `use t`: the body of an existential target, when it is unfolded, at the term.
 ///
-/// It stops by `WrongArgument` where the tokens are no term, then by `WrongShape`.
+/// It stops by `WrongArgument` where the tokens are no term, then by `WrongShape`. A target of more than
+/// 4,096 nodes isn't made: it stops by the first limit that the new goal would pass.
 pub fn witness(
     alloc: Global,
     goal: &Goal,
@@ -237,7 +239,7 @@ pub fn witness(
 ) -> Result<Reduction, ActFault>
     requires ready { IsReady (lookup_of lookup.now) (goal_of goal.now) }
     requires texts { All (λ (w : Lexeme). IsTokenText w.kind w.text) (part argument.now).tokens }
-    ensures { Does (lookup_of lookup.now) (goal_of goal.now) (act.Witness (part argument.now)) result }
+    ensures { DoesWithin (lookup_of lookup.now) (goal_of goal.now) (act.Witness (part argument.now)) result }
 {
     match term_there(alloc, goal, argument, lookup) {
         Ok(t) => witnessed(alloc, goal, t, lookup),
@@ -251,15 +253,44 @@ fn witnessed(
     t: Boxed<Term>,
     lookup: &Lookup<'_>,
 ) -> Result<Reduction, ActFault>
-    ensures { Makes (witness_of (goal_of goal.now) (term t) (goal_form (lookup_of lookup.now) (goal_of goal.now))) (opening (lookup_of lookup.now) (goal_of goal.now) ++ moves.under_exi (term t) ∷ []) result }
+    ensures { MakesWithin (witness_of (goal_of goal.now) (term t) (goal_form (lookup_of lookup.now) (goal_of goal.now))) (opening (lookup_of lookup.now) (goal_of goal.now) ++ moves.under_exi (term t) ∷ []) result }
 {
     let Form { formula, opening } = target_form(alloc, goal, lookup)?;
     match formula.get() {
-        Formula::Ex(_, a) => {
-            let target = Boxed::new(alloc, a.get().opened(alloc, t.get())?)?;
-            let next = goal.aimed(alloc, target)?;
-            Ok(one(alloc, opening, Frame::UnderExi(t), next)?)
-        }
+        Formula::Ex(_, a) => at_witness(alloc, goal, a.get(), t, opening),
         _ => Err(ActFault::Stop(Cause::WrongShape)),
     }
+}
+
+/// The body of an existential target at a term, whose nodes are counted first.
+fn at_witness(
+    alloc: Global,
+    goal: &Goal,
+    body: &Formula,
+    t: Boxed<Term>,
+    opening: Items<Frame>,
+) -> Result<Reduction, ActFault>
+    ensures { MakesWithin (Ok (aimed (tree.opened_formula (term t) (formula body.now)) (goal_of goal.now) ∷ [])) (frames_of opening ++ moves.under_exi (term t) ∷ []) result }
+{
+    let size = opened_size(body, t.get().size());
+    match large_nodes(size) {
+        Some(limit) => Err(ActFault::Stop(target_limit(alloc, goal, limit)?)),
+        None => Ok(with_witness(alloc, goal, body, t, opening)?),
+    }
+}
+
+/// A goal for the body of an existential target at a term.
+fn with_witness(
+    alloc: Global,
+    goal: &Goal,
+    body: &Formula,
+    t: Boxed<Term>,
+    opening: Items<Frame>,
+) -> Result<Reduction, AllocError>
+    requires few { tree.nodes_of (tree.opened_formula (term t) (formula body.now)) ≤ 4096 }
+    ensures { IfOk result (Has (aimed (tree.opened_formula (term t) (formula body.now)) (goal_of goal.now) ∷ []) (frames_of opening ++ moves.under_exi (term t) ∷ [])) }
+{
+    let target = Boxed::new(alloc, body.opened(alloc, t.get())?)?;
+    let next = goal.aimed(alloc, target)?;
+    one(alloc, opening, Frame::UnderExi(t), next)
 }

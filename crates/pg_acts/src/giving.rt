@@ -97,7 +97,7 @@ fn had(
     let Given { formula, proof } = given;
     let next = goal
         .copied(alloc)?
-        .with_hyp(name, boxed(alloc, formula.get())?)?;
+        .with_hyp(alloc, name, boxed(alloc, formula.get())?)?;
     Ok(one(alloc, Items::new(alloc), Frame::Cut(formula, proof), next)?)
 }
 

@@ -50,5 +50,5 @@ formula-few s d (ex x a) le = omega (arith, formula-few s (d + 1) a le)
 
 -- so the count is exact where the body is small, and the term
 pub opened_exact : (a : Fm) (t : Tm) (by size : ℕ) → nodes_of a ≤ 4096 → nodes t ≤ 8192 → by ≡ min (nodes t) (2 ^ 64 - 1) →
-    ((s : Tm) → by ≡ nodes s → size ≡ min (nodes_of (opened_formula s a)) (2 ^ 64 - 1)) → size ≡ nodes_of (opened_formula t a)
-opened_exact a t by size few small is count = omega (arith, formula-few t 0 a small, few, count t (omega (arith, is, small)))
+    ((s : Tm) → by ≡ min (nodes s) (2 ^ 64 - 1) → size ≡ min (nodes_of (opened_formula s a)) (2 ^ 64 - 1)) → size ≡ nodes_of (opened_formula t a)
+opened_exact a t by size few small is count = omega (arith, formula-few t 0 a small, few, count t is)

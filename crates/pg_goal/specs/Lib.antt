@@ -3,3 +3,4 @@ pub mod Answers
 pub mod Conditions
 pub mod Places
 pub mod Sizes
+pub mod Measured

@@ -6,6 +6,7 @@ ghost use Rattle.pg_moves.specs.Goals.{var_name, hyp_name, var_names, live_names
 ghost use Rattle.pg_moves.specs.First.{first_vars, first_hyps, first_goal};
 ghost use Rattle.pg_goal.specs.View.{var_of, hyp_of, goal_of};
 
+use crate::shared::Shared;
 use pg_syntax::{Binder, Names, Statement};
 use pg_terms::{Formula, Name};
 use sqlite_items::{Boxed, Items};
@@ -23,7 +24,7 @@ pub struct Var {
 #[derive(Drop)]
 pub struct Hyp {
     pub name: Name,
-    pub formula: Boxed<Formula>,
+    pub formula: Shared,
     /// Whether it may be named still.
     pub live: bool,
 }
@@ -34,7 +35,7 @@ pub struct Hyp {
 pub struct Goal {
     pub vars: Items<Var>,
     pub hyps: Items<Hyp>,
-    pub target: Boxed<Formula>,
+    pub target: Shared,
 }
 
 /// The first goal of a statement: its variables and its hypotheses, each in their order and all live,
@@ -45,7 +46,7 @@ pub fn initial(alloc: Global, statement: &Statement) -> Result<Goal, AllocError>
     let binders = statement.binders.as_slice();
     let vars = first_vars(alloc, binders)?;
     let hyps = first_hyps(alloc, binders)?;
-    let target = boxed(alloc, &statement.target)?;
+    let target = measured(alloc, &statement.target)?;
     Ok(Goal { vars, hyps, target })
 }
 
@@ -77,7 +78,7 @@ fn first_hyps(alloc: Global, binders: &[Binder]) -> Result<Items<Hyp>, AllocErro
     let mut hyps = Items::new(alloc);
     for binder in binders {
         if let Binder::Hyp(name, a) = binder {
-            let formula = boxed(alloc, a)?;
+            let formula = measured(alloc, a)?;
             let name = name.copied(alloc)?;
             hyps.push(Hyp {
                 name,
@@ -89,28 +90,31 @@ fn first_hyps(alloc: Global, binders: &[Binder]) -> Result<Items<Hyp>, AllocErro
     Ok(hyps)
 }
 
-/// An equal formula, in a box of its own.
-fn boxed(alloc: Global, a: &Formula) -> Result<Boxed<Formula>, AllocError>
+/// An equal formula, measured.
+fn measured(alloc: Global, a: &Formula) -> Result<Shared, AllocError>
     ensures { IfOk result (λ r. r ≡ a.now) }
 {
-    Boxed::new(alloc, a.copied(alloc)?)
+    let copy = Boxed::new(alloc, a.copied(alloc)?)?;
+    Shared::new(alloc, copy)
 }
 
 impl Goal {
-    /// An equal goal. It fails only for want of memory.
+    /// An equal goal, whose formulas are shared with this one. It fails only for want of memory.
     pub fn copied(&self, alloc: Global) -> Result<Goal, AllocError>
         ensures { IfOk result (λ g. g ≡ self.now) }
     {
-        let target = boxed(alloc, self.target.get())?;
+        let target = self.target.shared()?;
         let vars = copied_vars(alloc, self.vars.as_slice())?;
         let hyps = copied_hyps(alloc, self.hyps.as_slice())?;
         Ok(Goal { vars, hyps, target })
     }
 
-    /// A copy of the goal with another target. It fails only for want of memory.
+    /// The goal with another target, whose hypotheses are shared with this one. It fails only for want
+    /// of memory.
     pub fn aimed(&self, alloc: Global, target: Boxed<Formula>) -> Result<Goal, AllocError>
         ensures { IfOk result (λ g. goal_of g ≡ aimed (formula_in target) (goal_of self.now)) }
     {
+        let target = Shared::new(alloc, target)?;
         let vars = copied_vars(alloc, self.vars.as_slice())?;
         let hyps = copied_hyps(alloc, self.hyps.as_slice())?;
         Ok(Goal { vars, hyps, target })
@@ -125,9 +129,15 @@ impl Goal {
     }
 
     /// The goal with a new hypothesis, which stands last. It fails only for want of memory.
-    pub fn with_hyp(mut self, name: Name, formula: Boxed<Formula>) -> Result<Goal, AllocError>
+    pub fn with_hyp(
+        mut self,
+        alloc: Global,
+        name: Name,
+        formula: Boxed<Formula>,
+    ) -> Result<Goal, AllocError>
         ensures { IfOk result (λ g. goal_of g ≡ with_hyp name (formula_in formula) (goal_of self)) }
     {
+        let formula = Shared::new(alloc, formula)?;
         self.hyps.push(Hyp {
             name,
             formula,
@@ -236,11 +246,11 @@ fn dead_var(alloc: Global, var: &Var) -> Result<Var, AllocError>
     Ok(Var { name, live: false })
 }
 
-/// A dead hypothesis of the same name and formula.
+/// A dead hypothesis of the same name, whose formula is shared with it.
 fn dead_hyp(alloc: Global, hyp: &Hyp) -> Result<Hyp, AllocError>
     ensures { IfOk result (λ h. h ≡ record { name = hyp.now.name; formula = hyp.now.formula; live = false }) }
 {
-    let formula = boxed(alloc, hyp.formula.get())?;
+    let formula = hyp.formula.shared()?;
     let name = hyp.name.copied(alloc)?;
     Ok(Hyp {
         name,
@@ -288,13 +298,13 @@ fn copied_vars(alloc: Global, vars: &[Var]) -> Result<Items<Var>, AllocError>
     Ok(copies)
 }
 
-/// Equal hypotheses.
+/// Equal hypotheses, whose formulas are shared with them.
 fn copied_hyps(alloc: Global, hyps: &[Hyp]) -> Result<Items<Hyp>, AllocError>
     ensures { IfOk result (λ copies. copies ≡ hyps.now) }
 {
     let mut copies = Items::new(alloc);
     for hyp in hyps {
-        let formula = boxed(alloc, hyp.formula.get())?;
+        let formula = hyp.formula.shared()?;
         let name = hyp.name.copied(alloc)?;
         copies.push(Hyp {
             name,

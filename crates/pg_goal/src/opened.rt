@@ -7,16 +7,17 @@ ghost use Rattle.pg_goal.specs.Sizes.{opened_nodes, all_opened_nodes, formula_no
 
 use pg_terms::{Formula, Term};
 
-/// The size in nodes of the formula opened by a term of so many nodes. Takes no memory.
+/// The size in nodes of the formula opened by a term of so many nodes, or else the type's end; so is the
+/// term's size given where it is past that. Takes no memory, and time linear in the formula.
 pub fn opened_size(a: &Formula, by: u64) -> u64
-    ensures { (s : Tm) → by ≡ nodes s → result ≡ min (nodes_of (opened_formula s (formula a.now))) (2 ^ 64 - 1) }
+    ensures { (s : Tm) → by ≡ min (nodes s) (2 ^ 64 - 1) → result ≡ min (nodes_of (opened_formula s (formula a.now))) (2 ^ 64 - 1) }
 {
     formula_size(by, 0, a)
 }
 
 /// The size of a formula under `depth` binders.
 fn formula_size(by: u64, depth: u64, a: &Formula) -> u64
-    ensures { (s : Tm) (d : ℕ) → by ≡ nodes s → depth ≡ min d (2 ^ 64 - 1) → result ≡ min (formula_nodes s d (formula a.now)) (2 ^ 64 - 1) }
+    ensures { (s : Tm) (d : ℕ) → by ≡ min (nodes s) (2 ^ 64 - 1) → depth ≡ min d (2 ^ 64 - 1) → result ≡ min (formula_nodes s d (formula a.now)) (2 ^ 64 - 1) }
 {
     match a {
         Formula::Falsum => 1,
@@ -38,7 +39,7 @@ fn formula_size(by: u64, depth: u64, a: &Formula) -> u64
 /// The size of a term under `depth` binders.
 #[cycle(size)]
 fn term_size(by: u64, depth: u64, t: &Term) -> u64
-    ensures { (s : Tm) (d : ℕ) → by ≡ nodes s → depth ≡ min d (2 ^ 64 - 1) → result ≡ min (opened_nodes s d (term t.now)) (2 ^ 64 - 1) }
+    ensures { (s : Tm) (d : ℕ) → by ≡ min (nodes s) (2 ^ 64 - 1) → depth ≡ min d (2 ^ 64 - 1) → result ≡ min (opened_nodes s d (term t.now)) (2 ^ 64 - 1) }
 {
     match t {
         Term::Free(_) | Term::Zero => 1,
@@ -50,7 +51,7 @@ fn term_size(by: u64, depth: u64, t: &Term) -> u64
 
 /// The size of what stands for a bound variable.
 fn bound_size(by: u64, depth: u64, i: u32) -> u64
-    ensures { (s : Tm) (d : ℕ) → by ≡ nodes s → depth ≡ min d (2 ^ 64 - 1) → result ≡ nodes (opened_bound s d i) }
+    ensures { (s : Tm) (d : ℕ) → by ≡ min (nodes s) (2 ^ 64 - 1) → depth ≡ min d (2 ^ 64 - 1) → result ≡ min (nodes (opened_bound s d i)) (2 ^ 64 - 1) }
 {
     if u64::from(i) == depth { by } else { 1 }
 }
@@ -58,7 +59,7 @@ fn bound_size(by: u64, depth: u64, i: u32) -> u64
 /// The sum of the sizes of terms under `depth` binders.
 #[cycle(size)]
 fn all_size(by: u64, depth: u64, ts: &[Term]) -> u64
-    ensures { (s : Tm) (d : ℕ) → by ≡ nodes s → depth ≡ min d (2 ^ 64 - 1) → result ≡ min (all_opened_nodes s d (args ts.now)) (2 ^ 64 - 1) }
+    ensures { (s : Tm) (d : ℕ) → by ≡ min (nodes s) (2 ^ 64 - 1) → depth ≡ min d (2 ^ 64 - 1) → result ≡ min (all_opened_nodes s d (args ts.now)) (2 ^ 64 - 1) }
 {
     let mut sum: u64 = 0;
     for t in ts {

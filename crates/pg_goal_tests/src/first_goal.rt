@@ -48,7 +48,7 @@ fn what_is_dead_is_seen_no_more(rt: HostRuntime) -> Result<(), Fail> {
     let goal = first(alloc)?.without_hyp(alloc, 0)?;
     assert!(rt; goal.live_names(alloc)?.len() == 1);
     let formula = Boxed::new(alloc, Formula::Falsum)?;
-    let goal = goal.with_hyp(Name::new(alloc, "h")?, formula)?;
+    let goal = goal.with_hyp(alloc, Name::new(alloc, "h")?, formula)?;
     assert!(rt; goal.live_names(alloc)?.len() == 2);
     assert!(rt; goal.hyps.len() == 2);
     Ok(())

@@ -13,7 +13,7 @@ ghost use Rattle.pg_inducts.specs.Carrying.{IsClosable, let_go};
 
 use crate::holding::holds_var;
 use pg_frames::Frame;
-use pg_goal::{Goal, Hyp};
+use pg_goal::{Goal, Hyp, Shared};
 use pg_reduction::boxed;
 use pg_terms::{Formula, Term};
 use sqlite_items::{Boxed, Items};
@@ -107,7 +107,7 @@ fn released(alloc: Global, hyps: &[Hyp], k: u32) -> Result<Items<Hyp>, AllocErro
     let mut released = Items::new(alloc);
     for hyp in hyps {
         let live = hyp.live && !holds_var(k, hyp.formula.get());
-        let formula = boxed(alloc, hyp.formula.get())?;
+        let formula = hyp.formula.shared()?;
         let name = hyp.name.copied(alloc)?;
         released.push(Hyp {
             name,
@@ -125,7 +125,7 @@ pub fn at_term(alloc: Global, goal: &Goal, k: u32, t: &Term, rest: Goal) -> Resu
     requires target { IsClosable (formula goal.now.target) }
     ensures { IfOk result (λ g. goal_of g ≡ aimed (put_for k (term t.now) (formula goal.now.target)) (with_copies k (term t.now) (carried k (goal_of goal.now)) (goal_of rest))) }
 {
-    let target = put_for(alloc, goal.target.get(), k, t)?;
+    let target = Shared::new(alloc, put_for(alloc, goal.target.get(), k, t)?)?;
     let mut next = with_copies(alloc, goal, k, t, rest)?;
     next.target = target;
     Ok(next)
@@ -141,7 +141,7 @@ fn with_copies(alloc: Global, goal: &Goal, k: u32, t: &Term, rest: Goal) -> Resu
     for hyp in goal.hyps.as_slice() {
         if hyp.live && holds_var(k, hyp.formula.get()) {
             let copy = put_for(alloc, hyp.formula.get(), k, t)?;
-            next = next.with_hyp(hyp.name.copied(alloc)?, copy)?;
+            next = next.with_hyp(alloc, hyp.name.copied(alloc)?, copy)?;
         }
     }
     Ok(next)

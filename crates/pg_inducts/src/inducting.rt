@@ -135,7 +135,7 @@ fn by_induction(
     let known = opened(alloc, body.get(), &Term::Free(var_count(goal)))?;
     let last = Frame::Induct(body, Boxed::new(alloc, Term::Free(k))?, count);
     let base = base_goal(alloc, goal, k)?;
-    let step = step_goal(alloc, goal, k, rest.with_hyp(name, known)?)?;
+    let step = step_goal(alloc, goal, k, rest.with_hyp(alloc, name, known)?)?;
     two(alloc, gives, last, base, step)
 }
 

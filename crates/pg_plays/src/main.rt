@@ -8,13 +8,14 @@ mod declaring;
 mod fault;
 mod playing;
 mod premises;
+mod rehearsing;
 mod reply;
 mod session;
 mod stating;
 mod text;
 
 use fault::RowFault;
-use playing::play;
+use playing::{Played, play};
 use reply::Reply;
 use session::Session;
 use std::alloc::Global;
@@ -69,10 +70,11 @@ fn done(
             session.statement = stating::statement(alloc, text.as_str(), &session.sig)?;
             Ok(())
         }
-        "script" => play(alloc, session, text.as_bytes(), reply),
+        "script" => play(alloc, session, Played::Script(text.as_bytes()), reply),
+        "sample" => play(alloc, session, Played::Sample(text.as_str()), reply),
         "bytes" => {
             let bytes = bytes_of(alloc, text.as_str())?;
-            play(alloc, session, bytes.as_slice(), reply)
+            play(alloc, session, Played::Script(bytes.as_slice()), reply)
         }
         _ => Err(RowFault::Unread("no row has this word")),
     }

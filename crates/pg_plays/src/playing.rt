@@ -1,6 +1,7 @@
 // Rows that run scripts.
 use crate::fault::RowFault;
 use crate::premises::can_attempt;
+use crate::rehearsing::rehearsed;
 use crate::reply::Reply;
 use crate::session::Session;
 use pg_arith::Signature;
@@ -11,11 +12,20 @@ use pg_terms::Name;
 use pg_worlds::{Available, Course, Graph, LevelId, LevelItems, TacticName, Unlocked};
 use std::alloc::{AllocError, Global};
 
-/// Runs bytes as a script on the statement, and puts the lines that tell of it into the reply.
+/// What is run on the statement.
+#[derive(Clone, Copy)]
+pub enum Played<'p> {
+    /// A player's bytes.
+    Script(&'p [u8]),
+    /// The text of a level's sample, in which hints and branches may stand.
+    Sample(&'p str),
+}
+
+/// Runs a script or a sample on the statement, and puts the lines that tell of it into the reply.
 pub fn play(
     alloc: Global,
     session: &Session,
-    bytes: &[u8],
+    played: Played<'_>,
     reply: &mut Reply,
 ) -> Result<(), RowFault> {
     let sig = &session.sig;
@@ -32,7 +42,10 @@ pub fn play(
     if !can_attempt(&lookup, statement) {
         return Err(RowFault::Unread("the statement does not fit, or is too large"));
     }
-    let lines = told(alloc, statement, bytes, &lookup)?;
+    let lines = match played {
+        Played::Script(bytes) => told(alloc, statement, bytes, &lookup)?,
+        Played::Sample(text) => rehearsed(alloc, statement, text, &lookup)?,
+    };
     for line in lines.lines() {
         reply.line(line)?;
     }

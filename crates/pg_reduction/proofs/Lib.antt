@@ -1,3 +1,4 @@
 pub mod Does
 pub mod Large
 pub mod Parts
+pub mod Passed

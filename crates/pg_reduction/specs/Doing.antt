@@ -57,6 +57,12 @@ Makes want frames (Ok r) = (want ≡ Ok (map goal_of r.goals)) × (frames_of r.f
 Makes want frames (Err (Stop c)) = want ≡ Err (cause_of c)
 Makes want frames (Err OutOfMemory) = Unit {0}
 
+-- these goals by these frames, or this cause; it may be a limit that is told before the goals are made
+abbrev pub MakesWithin : Tried (List Goal) → List Frame → Result Reduction ActFault → Type 0
+MakesWithin want frames (Ok r) = (want ≡ Ok (map goal_of r.goals)) × (frames_of r.frames ≡ frames)
+MakesWithin want frames (Err (Stop c)) = StopsWithin want c
+MakesWithin want frames (Err OutOfMemory) = Unit {0}
+
 -- these goals by these frames
 abbrev pub Has : List Goal → List Frame → Reduction → Type 0
 Has goals frames r = (map goal_of r.goals ≡ goals) × (frames_of r.frames ≡ frames)

@@ -1,8 +1,8 @@
 -- What is told of a number that may be over its type's end.
-use Rattle.std.specs.Prelude.{◌≡◌, ◌-◌, ◌^◌, List, length, min, Option, option_map}
-use Rattle.pg_logic.specs.Tree.{Fm}
+use Rattle.std.specs.Prelude.{◌≡◌, ◌-◌, ◌^◌, List, length, min, Option, Some, None, option_map}
+use Rattle.pg_logic.specs.Tree.{Fm, nodes_of}
 use Rattle.pg_moves.specs.Goals.{Goal}
-use Rattle.pg_moves.specs.Measures.{all_nodes}
+use Rattle.pg_moves.specs.Measures.{all_nodes, over}
 use Rattle.pg_terms.specs.View.{formula}
 use Rattle.pg_goal.specs.declared.goal.Hyp.{Hyp}
 use Rattle.pg_reduction.specs.View.{cause_of}
@@ -26,6 +26,15 @@ AreOthers rest o = (o.count ≡ length rest) × (o.nodes ≡ min (all_nodes rest
 -- the cause is told, if there is one
 abbrev pub Tells : Option Cause → Option rust.Cause → Type 0
 Tells want found = option_map cause_of found ≡ option_map told want
+
+-- The first limit that is passed, where a formula that passes this one stands behind what is measured.
+abbrev pub IsFirst : Option Cause → (limit first : rust.Cause) → Type 0
+IsFirst (Some x) limit first = told x ≡ cause_of first
+IsFirst None limit first = first ≡ limit
+
+-- the limit of nodes, where a formula passes it
+abbrev pub large_nodes : Fm → Option Cause
+large_nodes a = over 4096 (nodes_of a) (TooLarge Nodes (nodes_of a))
 
 -- ---- inside
 

@@ -37,7 +37,7 @@ pub fn changed_to(
     ensures { IfOk result (λ g. goal_of g ≡ moves.changed_to (goal_of goal.now) (found_of f.now) (formula a)) }
 {
     let without = goal.copied(alloc)?.without_hyp(alloc, f.number)?;
-    without.with_hyp(f.hyp.name.copied(alloc)?, a)
+    without.with_hyp(alloc, f.hyp.name.copied(alloc)?, a)
 }
 
 /// An equal formula, in a box of its own.

@@ -12,8 +12,7 @@ ghost use Rattle.pg_reduction.specs.Limits.{AreOthers, Tells, hyp_formula};
 ghost use Rattle.pg_reduction.specs.View.{cause_of, measure_of};
 
 use crate::cause::{Cause, Measure};
-use pg_goal::{Goal, Hyp, Var};
-use pg_terms::Formula;
+use pg_goal::{Goal, Hyp, Shared, Var};
 
 /// The goals of a block besides the new ones: how many, and the nodes of all their formulas, or else
 /// the type's end.
@@ -27,18 +26,20 @@ pub struct Others {
 /// what was reached. Each new goal is measured in order: its live variables, its live hypotheses,
 /// the nodes and then the height of each hypothesis, dead ones too, and of the target. Then the
 /// block is: its goals, and the nodes of all their formulas. A number over its type's end is told as
-/// that end. Takes no memory, and time linear in the new goals.
+/// that end. Takes no memory, and time linear in the variables and hypotheses of the new goals: no
+/// formula is walked through.
 pub fn first_large(new: &[Goal], others: &Others) -> Option<Cause>
     ensures { (rest : List moves.Goal) → AreOthers rest others.now → Tells (first_large (map goal_of new.now) (map goal_of new.now ++ rest)) result }
 {
     large_goals(new).or(large_block(new, others))
 }
 
-/// The nodes of all formulas of a goal, or else the type's end. Takes no memory.
+/// The nodes of all formulas of a goal, or else the type's end. Takes no memory, and time linear in the
+/// number of its hypotheses: no formula is walked through.
 pub fn goal_nodes(goal: &Goal) -> u64
     ensures { result ≡ min (goal_nodes (goal_of goal.now)) (2 ^ 64 - 1) }
 {
-    hyp_nodes(goal.hyps.as_slice()).saturating_add(goal.target.get().size())
+    hyp_nodes(goal.hyps.as_slice()).saturating_add(goal.target.size())
 }
 
 /// The nodes of all formulas of some hypotheses.
@@ -47,7 +48,7 @@ fn hyp_nodes(hyps: &[Hyp]) -> u64
 {
     let mut nodes: u64 = 0;
     for hyp in hyps {
-        nodes = nodes.saturating_add(hyp.formula.get().size());
+        nodes = nodes.saturating_add(hyp.formula.size());
     }
     nodes
 }
@@ -72,7 +73,7 @@ pub fn first_large_goal(goal: &Goal) -> Option<Cause>
     over(64, live_vars(goal.vars.as_slice()), Measure::Variables)
         .or(over(64, live_hyps(goal.hyps.as_slice()), Measure::Hypotheses))
         .or(large_hyps(goal.hyps.as_slice()))
-        .or(large_formula(goal.target.get()))
+        .or(large_formula(&goal.target))
 }
 
 /// The first limit that a hypothesis passes, dead ones too.
@@ -80,7 +81,7 @@ fn large_hyps(hyps: &[Hyp]) -> Option<Cause>
     ensures { Tells (first_over (flat_map formula_measures (map hyp_formula hyps.now))) result }
 {
     for hyp in hyps {
-        if let Some(cause) = large_formula(hyp.formula.get()) {
+        if let Some(cause) = large_formula(&hyp.formula) {
             return Some(cause);
         }
     }
@@ -88,14 +89,21 @@ fn large_hyps(hyps: &[Hyp]) -> Option<Cause>
 }
 
 /// The limit that a formula passes: of nodes, or else of height.
-fn large_formula(a: &Formula) -> Option<Cause>
+fn large_formula(a: &Shared) -> Option<Cause>
     ensures { Tells (first_over (formula_measures (formula a.now))) result }
 {
-    over(4096, a.size(), Measure::Nodes).or(over(256, u64::from(a.height()), Measure::Height))
+    large_nodes(a.size()).or(over(256, u64::from(a.height()), Measure::Height))
+}
+
+/// The limit that a formula of so many nodes passes, where the type's end stands for all numbers past it.
+pub fn large_nodes(nodes: u64) -> Option<Cause>
+    ensures { option_map cause_of result ≡ over 4096 nodes (causes.TooLarge causes.Nodes nodes) }
+{
+    over(4096, nodes, Measure::Nodes)
 }
 
 /// The cause, where the limit is passed.
-fn over(limit: u64, reached: u64, measure: Measure) -> Option<Cause>
+pub fn over(limit: u64, reached: u64, measure: Measure) -> Option<Cause>
     ensures { option_map cause_of result ≡ over limit reached (causes.TooLarge (measure_of measure) reached) }
 {
     if reached > limit {

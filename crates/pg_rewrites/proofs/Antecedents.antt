@@ -14,7 +14,7 @@ use Rattle.pg_reduction.specs.Limits.{told, Tells}
 use Rattle.pg_reduction.specs.View.{cause_of}
 use Rattle.pg_reduction.proofs.Large.{goes-on, found-large}
 use Rattle.pg_rewrites.specs.Applying.{antecedents}
-use Rattle.pg_rewrites.proofs.Limits.{passed, large}
+use Rattle.pg_reduction.proofs.Passed.{passed, large}
 
 -- ---- sizes of the first terms
 

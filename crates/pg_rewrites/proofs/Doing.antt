@@ -42,21 +42,21 @@ use Rattle.pg_reduction.specs.declared.cause.ActFault.{ActFault}
 use Rattle.pg_reduction.specs.declared.cause.ActFault.TheVariants.{Stop, OutOfMemory}
 use Rattle.pg_reduction.specs.declared.reduction.Reduction.{Reduction}
 use Rattle.pg_reduction.specs.Doing.{IsReady, Reduces, DoesWithin, StopsWithin, Has, Yields}
-use Rattle.pg_reduction.specs.Limits.{Tells}
+use Rattle.pg_reduction.specs.Limits.{Tells, IsFirst, large_nodes}
 use Rattle.pg_reduction.specs.View.{cause_of}
 use Rattle.pg_reduction.specs.declared.cause.Cause as rust
 use Rattle.pg_moves.specs.Measures.{first_over, formula_measures, goal_measures}
 use Rattle.pg_reduction.proofs.Does as does
 use Rattle.pg_rewrites.specs.Applying.{Applies, Asks, Fit, steps_of, fitted, fit, stages, antecedents, asking, forward_terms, detached, detached_at, forwarded}
-use Rattle.pg_rewrites.specs.Measuring.{Forms, IsFirst, IsLarge, IsSmall}
+use Rattle.pg_rewrites.specs.Measuring.{Forms, IsLarge, IsSmall}
 use Rattle.pg_rewrites.specs.declared.measuring.Refusal.{Refusal}
 use Rattle.pg_rewrites.specs.declared.measuring.Refusal.TheVariants.{Large, Fault}
-use Rattle.pg_rewrites.specs.Rewriting.{Equation, cutting, exchanged_at, large_nodes, instance_terms, rule_terms, equated, equated_at, equation, rewritten_in, new_is_old, old_is_new, rewriting as rewriting_frames, reworded}
+use Rattle.pg_rewrites.specs.Rewriting.{Equation, cutting, exchanged_at, instance_terms, rule_terms, equated, equated_at, equation, rewritten_in, new_is_old, old_is_new, rewriting as rewriting_frames, reworded}
 use Rattle.pg_rewrites.specs.Taking.{Claim, taken_at}
 use Rattle.pg_rewrites.proofs.Staged.{finding, staged, asked-filled}
 use Rattle.pg_rewrites.proofs.Taken.{taken-proved, taken-filled}
 use Rattle.pg_rewrites.proofs.Values.{first-fixes, fit-tight}
-use Rattle.pg_rewrites.proofs.Limits.{limit-target, limit-hypothesis, count-large, count-small, limit-small}
+use Rattle.pg_reduction.proofs.Passed.{limit-target, limit-hypothesis, count-large, count-small, limit-small}
 
 -- ---- results
 
@@ -564,9 +564,5 @@ forms-fault view want made x e is f = go e (subst (λ x. Forms view want made (E
     go OutOfMemory f = f
 
 -- what is handed on
-pub handed-within : {X Y : Type 0} (l : Lookup) (g : Goal) (act : Act) (view : X → Y) (want : Tried Y) → ((c : Cause) → want ≡ Err c → new_goals l g act ≡ Err c) → (e : ActFault) → Yields view want (Err e) → DoesWithin l g act (Err e)
-handed-within l g act view want go (Stop c) y = subst (λ w. StopsWithin w c) (sym (go (cause_of c) y)) refl
-handed-within l g act view want go OutOfMemory y = tt
-
 pub stops-within : (l : Lookup) (g : Goal) (act : Act) (c : rust.Cause) → new_goals l g act ≡ Err (cause_of c) → DoesWithin l g act (Err (Stop c))
 stops-within l g act c is = subst (λ w. StopsWithin w c) (sym is) refl

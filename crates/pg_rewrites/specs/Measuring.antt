@@ -1,12 +1,11 @@
 -- Limits that formulas pass, where these are not made.
-use Rattle.std.specs.Prelude.{◌≡◌, ◌≤◌, Option, Some, None, Result, Ok, Err}
+use Rattle.std.specs.Prelude.{◌≡◌, ◌≤◌, Some, Result, Ok, Err}
 use Rattle.pg_logic.specs.Tree.{Fm, nodes_of}
-use Rattle.pg_moves.specs.Causes as causes
 use Rattle.pg_moves.specs.Causes.{Tried}
 use Rattle.pg_moves.specs.Measures.{first_over, formula_measures}
 use Rattle.pg_reduction.specs.declared.cause.Cause.{Cause}
 use Rattle.pg_reduction.specs.declared.cause.ActFault.TheVariants.{Stop, OutOfMemory}
-use Rattle.pg_reduction.specs.Limits.{told, Tells}
+use Rattle.pg_reduction.specs.Limits.{Tells}
 use Rattle.pg_reduction.specs.View.{cause_of}
 use Rattle.pg_rewrites.specs.declared.measuring.Refusal.{Refusal}
 use Rattle.pg_rewrites.specs.declared.measuring.Refusal.TheVariants.{Large, Fault}
@@ -27,8 +26,3 @@ Forms view want made (Ok x) = (want ≡ Ok (view x)) × IsSmall made
 Forms view want made (Err (Large c)) = IsLarge made c
 Forms view want made (Err (Fault (Stop c))) = want ≡ Err (cause_of c)
 Forms view want made (Err (Fault OutOfMemory)) = Unit {0}
-
--- The first limit that is passed, where a formula that passes this one stands behind what is measured.
-abbrev pub IsFirst : Option causes.Cause → (limit first : Cause) → Type 0
-IsFirst (Some x) limit first = told x ≡ cause_of first
-IsFirst None limit first = first ≡ limit

@@ -1,12 +1,11 @@
 -- `rw [r]`, `rw [r] at h`: the equation at the terms of the instance, and the frames.
-use Rattle.std.specs.Prelude.{Bool, List, [], ◌∷◌, length, Option, Ok, if◌then◌else◌}
-use Rattle.pg_logic.specs.Tree.{Tm, Fm, nodes_of}
+use Rattle.std.specs.Prelude.{Bool, List, [], ◌∷◌, length, Ok, if◌then◌else◌}
+use Rattle.pg_logic.specs.Tree.{Tm, Fm}
 use Rattle.pg_logic.specs.Kernel.{Pf, hyp, repl}
 use Rattle.pg_moves.specs.Assuming.{Found}
-use Rattle.pg_moves.specs.Causes.{Cause, Tried, Nodes, NoInstance, TooLarge, and_then, wanted}
+use Rattle.pg_moves.specs.Causes.{Tried, NoInstance, and_then, wanted}
 use Rattle.pg_moves.specs.Frames.{Frame, rewrite, cut, flipped}
 use Rattle.pg_moves.specs.Instances.{filled, first_instance}
-use Rattle.pg_moves.specs.Measures.{over}
 use Rattle.pg_moves.specs.Replaced.{replaced_formula, abstracted_formula}
 use Rattle.pg_moves.specs.Rewriting.{Sides, sides, no_binder}
 use Rattle.pg_moves.specs.Stripped.{Stripped, fixed, unbound}
@@ -45,10 +44,6 @@ rewritten_in subject e = replaced_formula e.old e.new subject
 -- the formula with the sides of the equation at these terms exchanged
 abbrev pub exchanged_at : List Tm → Fm → Sides → Fm
 exchanged_at ts subject z = replaced_formula (filled ts z.old) (filled ts z.new) subject
-
--- the limit of nodes, where a formula passes it
-abbrev pub large_nodes : Fm → Option Cause
-large_nodes a = over 4096 (nodes_of a) (TooLarge Nodes (nodes_of a))
 
 -- a proof that the new term is the old one, and that the old one is the new one
 abbrev pub new_is_old : Bool → Equation → Pf

@@ -25,7 +25,7 @@ ghost use Rattle.pg_rewrites.specs.Measuring.{Forms};
 ghost use Rattle.pg_rewrites.specs.Searching.{left_side, lent_formula, looks, right_side, short, shortened};
 ghost use Rattle.pg_rewrites.specs.View.{claim, fit_of};
 
-use crate::measuring::{Refusal, hypothesis_limit, large_antecedent, large_instance, target_limit};
+use crate::measuring::{Refusal, large_antecedent, large_instance};
 use crate::staging::{asking, stages};
 use crate::stripping::without_binders;
 use crate::taking::taken_at;
@@ -36,7 +36,8 @@ use pg_goal::{Given, Goal, Lookup};
 use pg_kernel::Proof;
 use pg_match::{match_formula, sizes};
 use pg_reduction::{
-    ActFault, Cause, Found, Reduction, boxed, changed_to, given_there, hypothesis_of, one,
+    ActFault, Cause, Found, Reduction, boxed, changed_to, given_there, hypothesis_limit,
+    hypothesis_of, one, target_limit,
 };
 use pg_script::Expr;
 use pg_terms::{Formula, Term};

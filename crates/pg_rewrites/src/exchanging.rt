@@ -18,14 +18,17 @@ ghost use Rattle.pg_rewrites.specs.View.{claim, equation_of};
 use crate::abstracting::abstracted_formula;
 use crate::applying::reworded;
 use crate::flipping::flipped;
-use crate::measuring::{Refusal, hypothesis_limit, target_limit};
+use crate::measuring::Refusal;
 use crate::rewriting::{Equation, rule_equation};
 use pg_base::Token;
 use pg_frames::Frame;
 use pg_goal::{Given, Goal, Lookup};
 use pg_kernel::Proof;
 use pg_match::changed;
-use pg_reduction::{ActFault, Cause, Found, Reduction, given_there, hypothesis_of, one};
+use pg_reduction::{
+    ActFault, Cause, Found, Reduction, given_there, hypothesis_limit, hypothesis_of, one,
+    target_limit,
+};
 use pg_script::RwRule;
 use pg_terms::Formula;
 use sqlite_items::{Boxed, Items};

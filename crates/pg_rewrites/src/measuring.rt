@@ -1,26 +1,17 @@
 // The limits that formulas pass, told before they are made.
-ghost use Rattle.std.specs.Prelude.{◌≡◌, ◌≤◌, ◌++◌, List, IfOk, flat_map, length, option_map};
-ghost use Rattle.pg_logic.specs.Tree.{Tm, falsum};
-ghost use Rattle.pg_moves.specs.Assuming as moves;
-ghost use Rattle.pg_moves.specs.Causes as causes;
-ghost use Rattle.pg_moves.specs.Goals.{aimed};
+ghost use Rattle.std.specs.Prelude.{◌≡◌, ◌≤◌, ◌++◌, List, flat_map, length};
+ghost use Rattle.pg_logic.specs.Tree.{Tm};
 ghost use Rattle.pg_moves.specs.Instances.{filled_formula};
-ghost use Rattle.pg_moves.specs.Measures.{over, first_over, formula_measures, goal_measures};
+ghost use Rattle.pg_moves.specs.Measures.{first_over, formula_measures};
 ghost use Rattle.pg_terms.specs.View.{formula};
 ghost use Rattle.pg_match.specs.Sizes.{AreSizes};
-ghost use Rattle.pg_goal.specs.View.{goal_of};
 ghost use Rattle.pg_reduction.specs.Limits.{Tells};
-ghost use Rattle.pg_reduction.specs.Named.{found_of};
-ghost use Rattle.pg_reduction.specs.View.{cause_of, measure_of};
 ghost use Rattle.pg_rewrites.specs.Applying.{antecedents};
-ghost use Rattle.pg_rewrites.specs.Measuring.{IsFirst};
 
-use pg_goal::Goal;
 use pg_match::{Size, formula_instance_size};
-use pg_reduction::{ActFault, Cause, Found, Measure, changed_to, first_large_goal};
+use pg_reduction::{ActFault, Cause, Measure, large_nodes, over};
 use pg_terms::Formula;
-use sqlite_items::Boxed;
-use std::alloc::{AllocError, Global};
+use std::alloc::AllocError;
 
 /// Why a formula isn't made.
 #[derive(Drop)]
@@ -41,45 +32,6 @@ impl From<AllocError> for Refusal {
     fn from(_e: AllocError) -> Refusal {
         Refusal::Fault(ActFault::OutOfMemory)
     }
-}
-
-/// The first limit that is passed, where a target of the goal passes this one.
-pub fn target_limit(alloc: Global, goal: &Goal, limit: Cause) -> Result<Cause, AllocError>
-    ensures { IfOk result (IsFirst (first_over (goal_measures (aimed falsum (goal_of goal.now)))) limit) }
-{
-    let small = goal.aimed(alloc, falsum(alloc)?)?;
-    Ok(first_limit(&small, limit))
-}
-
-/// The first limit that is passed, where what the hypothesis is to say passes this one.
-pub fn hypothesis_limit(
-    alloc: Global,
-    goal: &Goal,
-    f: &Found<'_>,
-    limit: Cause,
-) -> Result<Cause, AllocError>
-    ensures { IfOk result (IsFirst (first_over (goal_measures (aimed falsum (moves.changed_to (goal_of goal.now) (found_of f.now) falsum)))) limit) }
-{
-    let changed = changed_to(alloc, goal, f, falsum(alloc)?)?;
-    target_limit(alloc, &changed, limit)
-}
-
-/// The first limit that is passed, where a formula that passes this one stands behind what is measured
-/// of the goal.
-fn first_limit(small: &Goal, limit: Cause) -> Cause
-    ensures { IsFirst (first_over (goal_measures (goal_of small.now))) limit result }
-{
-    match first_large_goal(small) {
-        Some(first) => first,
-        None => limit,
-    }
-}
-
-/// A false formula.
-fn falsum(alloc: Global) -> Result<Boxed<Formula>, AllocError>
-    ensures { IfOk result (λ r. formula r ≡ falsum) }
-{
-    Boxed::new(alloc, Formula::Falsum)
 }
 
 /// The first limit that an antecedent passes, of so many binders and antecedents that are taken off a
@@ -115,22 +67,4 @@ pub fn large_instance(a: &Formula, values: &[Size]) -> Option<Cause>
 {
     let size = formula_instance_size(a, values);
     large_nodes(size.nodes).or(over(256, u64::from(size.height), Measure::Height))
-}
-
-/// The limit that a formula of so many nodes passes.
-pub fn large_nodes(nodes: u64) -> Option<Cause>
-    ensures { option_map cause_of result ≡ over 4096 nodes (causes.TooLarge causes.Nodes nodes) }
-{
-    over(4096, nodes, Measure::Nodes)
-}
-
-/// The cause, where the limit is passed.
-fn over(limit: u64, reached: u64, measure: Measure) -> Option<Cause>
-    ensures { option_map cause_of result ≡ over limit reached (causes.TooLarge (measure_of measure) reached) }
-{
-    if reached > limit {
-        Some(Cause::TooLarge { measure, reached })
-    } else {
-        None
-    }
 }

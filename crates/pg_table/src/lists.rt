@@ -48,7 +48,7 @@ pub fn witnessed(
     requires ready { IsReady (lookup_of lookup.now) (goal_of goal.now) }
     requires texts { AreTexts (map part_in terms.now) }
     requires part { part < length terms.now }
-    ensures { (a : Act) → slice_get (map Witness (map part_in terms.now)) part ≡ Some a → Does (lookup_of lookup.now) (goal_of goal.now) a result }
+    ensures { (a : Act) → slice_get (map Witness (map part_in terms.now)) part ≡ Some a → DoesWithin (lookup_of lookup.now) (goal_of goal.now) a result }
 {
     match at(terms, part as usize) {
         Some(term) => witness(alloc, goal, term, lookup),

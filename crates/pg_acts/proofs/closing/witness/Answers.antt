@@ -3,7 +3,7 @@ use Rattle.pg_terms.specs.View.{term}
 use Rattle.pg_moves.specs.Acts.{Witness}
 use Rattle.pg_moves.specs.Closing.{term_there}
 use Rattle.pg_goal.specs.View.{goal_of, lookup_of}
-use Rattle.pg_reduction.proofs.Does.{handed}
+use Rattle.pg_reduction.proofs.Does.{handed-within}
 use Rattle.pg_acts.proofs.Does.{does-witness, unread-witness}
 use Rattle.pg_acts.proofs.closing.witness.Goals as goal
 
@@ -16,4 +16,4 @@ returns-in-Err c =
     let l = lookup_of c.args.lookup.now in
     let g = goal_of c.args.goal.now in
     let p = part c.args.argument.now in
-    handed l g (Witness p) term (term_there l g p) (unread-witness l g p) c.in-Err.fault c.in-Err.ensures
+    handed-within l g (Witness p) term (term_there l g p) (unread-witness l g p) c.in-Err.fault c.in-Err.ensures

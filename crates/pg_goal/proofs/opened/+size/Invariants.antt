@@ -6,4 +6,4 @@ use Rattle.pg_goal.proofs.opened.+size.Given as goal
 
 abbrev pub invariant-all_size-loop-t : goal.invariant-all_size-loop-t
 invariant-all_size-loop-t l =
-    (s : Tm) (d : ℕ) → l.by ≡ nodes s → l.depth ≡ min d (2 ^ 64 - 1) → l.sum ≡ min (all_opened_nodes s d (args (take l.t-index l.ts))) (2 ^ 64 - 1)
+    (s : Tm) (d : ℕ) → l.by ≡ min (nodes s) (2 ^ 64 - 1) → l.depth ≡ min d (2 ^ 64 - 1) → l.sum ≡ min (all_opened_nodes s d (args (take l.t-index l.ts))) (2 ^ 64 - 1)

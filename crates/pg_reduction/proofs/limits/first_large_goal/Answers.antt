@@ -1,7 +1,6 @@
 use Rattle.std.proofs.Common.{length, map, ap, ◌∙◌, subst}
 use Rattle.std.specs.Prelude.{flat_map}
 use Rattle.pg_spelling.specs.Named.{live}
-use Rattle.pg_terms.specs.View.{formula}
 use Rattle.pg_moves.specs.Goals.{hyp_name, var_name}
 use Rattle.pg_moves.specs.Measures.{first_over, formula_measures}
 use Rattle.pg_goal.specs.View.{goal_of, hyp_of, var_of}
@@ -18,4 +17,4 @@ returns c =
     (c.live_hyps.ensures ∙ ap (λ hs. length (live (map hyp_name (map hyp_of hs)))) c.as_slice-2.ensures)
     c.over.ensures c.over-2.ensures c.or.ensures
     (subst (λ hs. Tells (first_over (flat_map formula_measures (map hyp_formula hs))) c.large_hyps.result) c.as_slice-3.ensures c.large_hyps.ensures) c.or-2.ensures
-    (subst (λ a. Tells (first_over (formula_measures (formula a))) c.large_formula.result) c.get.ensures c.large_formula.ensures) c.or-3.ensures
+    c.large_formula.ensures c.or-3.ensures

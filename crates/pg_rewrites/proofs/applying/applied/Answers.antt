@@ -9,7 +9,8 @@ use Rattle.pg_reduction.specs.Doing.{StopsWithin}
 use Rattle.pg_reduction.specs.Limits.{Tells}
 use Rattle.pg_reduction.specs.View.{cause_of}
 use Rattle.pg_rewrites.specs.Applying.{antecedents}
-use Rattle.pg_rewrites.proofs.Limits.{passed, few-all, limit-targets}
+use Rattle.pg_reduction.proofs.Passed.{passed}
+use Rattle.pg_rewrites.proofs.Limits.{few-all, limit-targets}
 use Rattle.pg_rewrites.proofs.applying.applied.Goals as goal
 
 pub taken_off-requires : goal.taken_off-requires

@@ -12,7 +12,8 @@ use Rattle.pg_reduction.specs.Doing.{Yields}
 use Rattle.pg_reduction.specs.Giving.{said}
 use Rattle.pg_rewrites.specs.Applying.{fit}
 use Rattle.pg_rewrites.specs.View.{fit_of}
-use Rattle.pg_rewrites.proofs.Doing.{asks, does-apply, ungiven-apply, stopped-apply, handed-within}
+use Rattle.pg_reduction.proofs.Does.{handed-within}
+use Rattle.pg_rewrites.proofs.Doing.{asks, does-apply, ungiven-apply, stopped-apply}
 use Rattle.pg_rewrites.proofs.Given.{given-few}
 use Rattle.pg_rewrites.proofs.Values.{fits-tight}
 use Rattle.pg_rewrites.proofs.applying.apply.Goals as goal

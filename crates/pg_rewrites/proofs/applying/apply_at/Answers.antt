@@ -13,7 +13,8 @@ use Rattle.pg_moves.specs.Rewriting.{forward}
 use Rattle.pg_moves.specs.Stripped.{unbound}
 use Rattle.pg_rewrites.specs.Applying.{forwarded}
 use Rattle.pg_rewrites.specs.View.{claim}
-use Rattle.pg_rewrites.proofs.Doing.{does-apply_at, large-forward, ungiven-apply_at, stopped-forward, unnamed-apply_at, handed-within, stops-within, forms-large, forms-fault}
+use Rattle.pg_reduction.proofs.Does.{handed-within}
+use Rattle.pg_rewrites.proofs.Doing.{does-apply_at, large-forward, ungiven-apply_at, stopped-forward, unnamed-apply_at, stops-within, forms-large, forms-fault}
 use Rattle.pg_rewrites.proofs.Given.{given-few}
 use Rattle.pg_rewrites.proofs.Values.{fits-tight}
 use Rattle.pg_rewrites.proofs.applying.apply_at.Goals as goal

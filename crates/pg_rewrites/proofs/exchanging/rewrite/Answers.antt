@@ -17,7 +17,8 @@ use Rattle.pg_rewrites.specs.declared.measuring.Refusal.{Refusal}
 use Rattle.pg_rewrites.specs.Measuring.{Forms}
 use Rattle.pg_rewrites.specs.Rewriting.{equation}
 use Rattle.pg_rewrites.specs.View.{equation_of}
-use Rattle.pg_rewrites.proofs.Doing.{small-rewrite, does-rewrite, large-rewrite, ungiven-rewrite, stopped-rewrite, handed-within, forms-large, forms-fault}
+use Rattle.pg_reduction.proofs.Does.{handed-within}
+use Rattle.pg_rewrites.proofs.Doing.{small-rewrite, does-rewrite, large-rewrite, ungiven-rewrite, stopped-rewrite, forms-large, forms-fault}
 use Rattle.pg_rewrites.proofs.Given.{given-few}
 use Rattle.pg_rewrites.proofs.Values.{fits-tight}
 use Rattle.pg_rewrites.proofs.exchanging.rewrite.Goals as goal

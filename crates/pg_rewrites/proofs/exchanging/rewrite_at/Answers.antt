@@ -20,7 +20,8 @@ use Rattle.pg_rewrites.specs.declared.measuring.Refusal.{Refusal}
 use Rattle.pg_rewrites.specs.Measuring.{Forms}
 use Rattle.pg_rewrites.specs.Rewriting.{equation}
 use Rattle.pg_rewrites.specs.View.{equation_of}
-use Rattle.pg_rewrites.proofs.Doing.{found-fits, small-rewrite, does-rewrite_at, large-rewrite_at, ungiven-rewrite_at, stopped-rewrite_at, unnamed-rewrite_at, handed-within, stops-within, forms-large, forms-fault}
+use Rattle.pg_reduction.proofs.Does.{handed-within}
+use Rattle.pg_rewrites.proofs.Doing.{found-fits, small-rewrite, does-rewrite_at, large-rewrite_at, ungiven-rewrite_at, stopped-rewrite_at, unnamed-rewrite_at, stops-within, forms-large, forms-fault}
 use Rattle.pg_rewrites.proofs.Given.{given-few}
 use Rattle.pg_rewrites.proofs.Values.{fits-tight}
 use Rattle.pg_rewrites.proofs.exchanging.rewrite_at.Goals as goal

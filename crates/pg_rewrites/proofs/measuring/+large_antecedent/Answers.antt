@@ -5,7 +5,7 @@ use Rattle.pg_moves.specs.Measures.{first_over, formula_measures}
 use Rattle.pg_match.specs.Sizes.{AreSizes}
 use Rattle.pg_reduction.specs.Limits.{Tells}
 use Rattle.pg_rewrites.specs.Applying.{antecedents}
-use Rattle.pg_rewrites.proofs.Limits.{passed}
+use Rattle.pg_reduction.proofs.Passed.{passed}
 use Rattle.pg_rewrites.proofs.Antecedents.{front-sizes, count-sizes, imp-here, imp-on, all-on}
 use Rattle.pg_rewrites.proofs.Making.{formula-all, formula-imp}
 use Rattle.pg_rewrites.proofs.measuring.+large_antecedent.Goals as goal

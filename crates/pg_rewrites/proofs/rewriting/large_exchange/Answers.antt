@@ -5,7 +5,7 @@ use Rattle.pg_terms.specs.View.{term, terms, formula}
 use Rattle.pg_match.specs.Sizes.{AreSizes}
 use Rattle.pg_moves.specs.Instances.{filled}
 use Rattle.pg_moves.specs.Replaced.{replaced_formula}
-use Rattle.pg_rewrites.proofs.Limits.{count-told}
+use Rattle.pg_reduction.proofs.Passed.{count-told}
 use Rattle.pg_rewrites.proofs.rewriting.large_exchange.Goals as goal
 
 pub returns : goal.returns

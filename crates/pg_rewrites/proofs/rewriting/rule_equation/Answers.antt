@@ -8,8 +8,8 @@ use Rattle.pg_moves.specs.Instances.{AreTight}
 use Rattle.pg_moves.specs.Rewriting.{Sides, sides}
 use Rattle.pg_moves.specs.Stripped.{unbound}
 use Rattle.pg_reduction.specs.declared.cause.Cause.{Cause}
-use Rattle.pg_reduction.specs.Limits.{Tells}
-use Rattle.pg_rewrites.specs.Rewriting.{exchanged_at, large_nodes, rule_terms}
+use Rattle.pg_reduction.specs.Limits.{Tells, large_nodes}
+use Rattle.pg_rewrites.specs.Rewriting.{exchanged_at, rule_terms}
 use Rattle.pg_rewrites.specs.Taking.{taken_at}
 use Rattle.pg_rewrites.specs.View.{claim, equation_of}
 use Rattle.pg_rewrites.proofs.Doing.{large-rule, small-rule, equates}

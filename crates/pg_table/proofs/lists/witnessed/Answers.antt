@@ -6,7 +6,7 @@ use Rattle.pg_script.specs.Data.{Part}
 use Rattle.pg_script.specs.View.{part}
 use Rattle.pg_moves.specs.Acts.{Witness}
 use Rattle.pg_goal.specs.View.{goal_of, lookup_of}
-use Rattle.pg_reduction.specs.Doing.{Does}
+use Rattle.pg_reduction.specs.Doing.{DoesWithin}
 use Rattle.pg_table.proofs.Acts.{here, nowhere, seen, holds-there, picked}
 use Rattle.pg_table.proofs.lists.witnessed.Goals as goal
 
@@ -24,5 +24,5 @@ pub returns : goal.returns
 returns c a e =
     let xs = c.args.terms.now in
     let x = c.in-Some.term in
-    subst (λ a. Does (lookup_of c.args.lookup.now) (goal_of c.args.goal.now) a c.witness.result)
+    subst (λ a. DoesWithin (lookup_of c.args.lookup.now) (goal_of c.args.goal.now) a c.witness.result)
     (picked Witness (map part xs) c.args.part (part x.now) a (seen part xs c.args.part x.now (here xs c.args.part c.at.result x c.at.ensures c.in-Some.is)) e) c.witness.ensures
