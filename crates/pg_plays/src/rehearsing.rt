@@ -8,10 +8,11 @@ ghost use Rattle.pg_attempt.specs.Attempts.{CanAttempt};
 use crate::fault::RowFault;
 use pg_attempt::lines;
 use pg_base::Lexer;
-use pg_goal::Lookup;
-use pg_runs::{Outcome, Stop, script_law};
+use pg_goal::{Goal, Lookup};
+use pg_runs::{Outcome, script_law};
 use pg_script::{Script, ScriptFault, read_script};
 use pg_syntax::Statement;
+use sqlite_items::Items;
 use std::alloc::{AllocError, Global};
 
 /// The lines of what a sample comes to on a statement: those of a script's outcome. Where a part stops, the lines of the
@@ -54,10 +55,18 @@ fn run_sample(
 /// The lines of an outcome, and behind those of a stop the lines of its goals.
 fn with_goals(alloc: Global, outcome: Outcome, lookup: &Lookup<'_>) -> Result<String, AllocError> {
     let mut text = lines(alloc, &outcome, lookup.sig)?;
-    if let Outcome::Stopped(stop) = outcome {
-        let Stop { goals, .. } = stop;
+    if let Some(goals) = goals_at_stop(outcome) {
         let left = lines(alloc, &Outcome::Unfinished { goals }, lookup.sig)?;
         text.push_str(left.as_str())?;
     }
     Ok(text)
+}
+
+/// The goals that were left where a run stopped.
+fn goals_at_stop(outcome: Outcome) -> Option<Items<Goal>> {
+    match outcome {
+        Outcome::Stopped(stop) => Some(stop.goals),
+        Outcome::Unfinished { goals: _goals } => None,
+        Outcome::Closed(_checked) => None,
+    }
 }
