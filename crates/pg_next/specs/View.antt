@@ -1,0 +1,41 @@
+-- What messages stand for.
+use Rattle.std.specs.Prelude.{◌≡◌, ◌<◌, ◌≤◌, ◌+◌, ℕ, List, ◌++◌, length, Option, Some, None, codes}
+use Rattle.httparse.specs.Grammar.{RequestHead}
+use Rattle.pg_messages.specs.Messages as messages
+use Rattle.pg_messages.specs.Replies.{in_json}
+use Rattle.pg_paths.specs.View.{verb_view}
+use Rattle.pg_wire.specs.View.{ask_of}
+use Rattle.pg_next.specs.declared.message.Fatal.{Fatal}
+use Rattle.pg_next.specs.declared.message.Fatal.TheVariants.{HeadLimit, Head, Length, Coding, TooLong}
+use Rattle.pg_next.specs.declared.message.What.{What}
+use Rattle.pg_next.specs.declared.message.What.TheVariants as whats
+use Rattle.pg_next.specs.declared.message.Message as told
+use Rattle.pg_next.specs.declared.next.Next.{Next}
+use Rattle.pg_next.specs.declared.next.Next.TheVariants as nexts
+
+abbrev pub fatal_view : Fatal → messages.What
+fatal_view HeadLimit = messages.fatal (in_json 431 (codes "{\"error\":\"head-limit\"}"))
+fatal_view Head = messages.fatal (in_json 400 (codes "{\"error\":\"head\"}"))
+fatal_view Length = messages.fatal (in_json 400 (codes "{\"error\":\"length\"}"))
+fatal_view Coding = messages.fatal (in_json 501 (codes "{\"error\":\"transfer-coding\"}"))
+fatal_view (TooLong digits) = messages.fatal (in_json 413 (messages.too_long_body digits.now))
+
+abbrev pub what_view : What → messages.What
+what_view (whats.Asks request) = messages.asks (ask_of request)
+what_view whats.NoRoute = messages.refused (in_json 404 (codes "{\"error\":\"route\"}")) None
+what_view (whats.NotItsVerb verb) = messages.refused (in_json 405 (codes "{\"error\":\"method\"}")) (Some (verb_view verb))
+what_view (whats.Fatal why) = fatal_view why
+
+abbrev pub message_view : told.Message → messages.Message
+message_view m = record { what = what_view m.what; size = m.size; closes = m.closes }
+
+-- the message at the front of the bytes, or so many bytes decide it at the earliest
+abbrev pub IsNextTold : ℕ → List ℕ → Next → Type 0
+IsNextTold number bytes (nexts.Message m) = messages.IsNext number bytes (Some (message_view m))
+IsNextTold number bytes (nexts.Wants size) = messages.WaitsFor number bytes size
+
+-- the message by its head, or so many bytes of a body are wanting
+abbrev pub IsTold : ℕ → ℕ → List ℕ → RequestHead → Next → Type 0
+IsTold number size rest h (nexts.Message m) = Some (message_view m) ≡ messages.of_head number size rest (Some h)
+IsTold number size rest h (nexts.Wants wanted) = (most : ℕ) × (most ≤ 65536) × (length rest < most) × (wanted ≡ size + most)
+    × ((later : List ℕ) → messages.of_head number size later (Some h) ≡ messages.with_body number h size later most)
