@@ -1,0 +1,8 @@
+use Rattle.std.proofs.Common.{◌≡◌, ◌≤◌, ◌∙◌, sym as flip, ap, refl, arith, codes, ℕ, List, [], ◌∷◌, length, Some, None, true, false, cond, subst}
+use Rattle.std.specs.Str.Parse.{digits_value}
+use Rattle.pg_heads.specs.Told.{IsFound}
+use Rattle.pg_messages.specs.Messages.{length_digits}
+use Rattle.pg_next.proofs.size.size_of.Goals as goal
+
+pub returns-in-Absent : goal.returns-in-Absent
+returns-in-Absent c = λ values found. let none : values ≡ [] = subst (λ f. IsFound f values) c.in-Absent.is found in (codes "0", ap length_digits none, refl, omega arith)
