@@ -1,5 +1,5 @@
 -- The size of a body by the digits of Content-Length.
-use Rattle.std.specs.Prelude.{◌≡◌, ◌<◌, ◌≤◌, ℕ, true, false, List, Option, Some, None}
+use Rattle.std.specs.Prelude.{◌≡◌, ◌<◌, ◌≤◌, ℕ, true, false, List, Option, Some, None, ⊤}
 use Rattle.std.specs.Str.Parse.{digits_value}
 use Rattle.pg_messages.specs.Paths.{is_digits}
 use Rattle.pg_messages.specs.Messages.{length_digits}
@@ -16,3 +16,8 @@ abbrev pub IsSizeOf : List (List ℕ) → Size → Type 0
 IsSizeOf values (Bytes n) = (digits : List ℕ) × (length_digits values ≡ Some digits) × (n ≡ digits_value 10 digits) × (n ≤ 65536)
 IsSizeOf values NoLength = length_digits values ≡ None
 IsSizeOf values (TooLong sent) = (length_digits values ≡ Some sent.now) × (65536 < digits_value 10 sent.now)
+
+-- so many bytes as a body may have
+abbrev pub FitsBody : Size → Type 0
+FitsBody (Bytes n) = n ≤ 65536
+FitsBody size = ⊤

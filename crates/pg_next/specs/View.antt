@@ -34,6 +34,11 @@ abbrev pub IsNextTold : ℕ → List ℕ → Next → Type 0
 IsNextTold number bytes (nexts.Message m) = messages.IsNext number bytes (Some (message_view m))
 IsNextTold number bytes (nexts.Wants size) = messages.WaitsFor number bytes size
 
+-- the message by its head and a body of so many bytes, or that many are wanting
+abbrev pub IsBodied : ℕ → ℕ → List ℕ → RequestHead → ℕ → Next → Type 0
+IsBodied number size rest h most (nexts.Message m) = Some (message_view m) ≡ messages.with_body number h size rest most
+IsBodied number size rest h most (nexts.Wants wanted) = (length rest < most) × (wanted ≡ size + most)
+
 -- the message by its head, or so many bytes of a body are wanting
 abbrev pub IsTold : ℕ → ℕ → List ℕ → RequestHead → Next → Type 0
 IsTold number size rest h (nexts.Message m) = Some (message_view m) ≡ messages.of_head number size rest (Some h)

@@ -1,10 +1,10 @@
 // The message at the front of some bytes.
-ghost use Rattle.std.specs.Prelude.{◌≡◌, ◌≤◌, ◌+◌, ℕ, length, codes, Option, option_map};
+ghost use Rattle.std.specs.Prelude.{◌≡◌, ◌≤◌, ◌+◌, ℕ, true, List, length, codes, Option, option_map};
 ghost use Rattle.httparse.specs.Grammar.{RequestHead};
 ghost use Rattle.pg_messages.specs.Messages as messages;
-ghost use Rattle.pg_heads.specs.Told.{Tells};
+ghost use Rattle.pg_heads.specs.Told.{Tells, IsFound};
 ghost use Rattle.pg_paths.specs.Routes.{route_rows};
-ghost use Rattle.pg_next.specs.View.{IsNextTold, IsTold, what_view};
+ghost use Rattle.pg_next.specs.View.{IsNextTold, IsTold, IsBodied, what_view, message_view, fatal_view};
 
 use crate::message::{Fatal, Message, What};
 use crate::size::{Size, size_of};
@@ -27,53 +27,71 @@ pub fn next_message<'a>(router: &Router<Kind>, number: u32, bytes: &'a [u8]) -> 
 {
     match head_scan(bytes) {
         Scan::Open => Next::Wants(bytes.len() + 1),
-        Scan::OverLimit => fatal(Fatal::HeadLimit, 0),
+        Scan::OverLimit => Next::Message(fatal(Fatal::HeadLimit, 0)),
         Scan::Ended { blank, head } => {
-            let (front, rest) = bytes.split_at(blank + head);
+            let size = blank + head;
+            let (front, rest) = bytes.split_at(size);
             let (_, head) = front.split_at(blank);
             match read_head(head) {
-                None => fatal(Fatal::Head, front.len()),
-                Some(told) => of_head(router, number, front.len(), rest, &told),
+                None => Next::Message(fatal(Fatal::Head, size)),
+                Some(told) => of_head(router, number, size, rest, &told),
             }
         }
     }
 }
 
-fn fatal(why: Fatal<'_>, size: usize) -> Next<'_> {
-    Next::Message(Message {
+fn fatal(why: Fatal<'_>, size: usize) -> Message<'_>
+    ensures { message_view result ≡ record { what = fatal_view why.entry; size = size; closes = true } }
+{
+    Message {
         what: What::Fatal(why),
         size,
         closes: true,
-    })
+    }
 }
 
 // The message that begins with this head, of so many bytes; `rest` stands behind it.
-fn of_head<'a>(router: &Router<Kind>, number: u32, size: usize, rest: &'a [u8], head: &Head<'a>) -> Next<'a>
-    requires { router.now ≡ route_rows }
+fn of_head<'a>(
+    router: &Router<Kind>,
+    number: u32,
+    size: usize,
+    rest: &'a [u8],
+    head: &Head<'a>,
+) -> Next<'a>
+    requires router { router.now ≡ route_rows }
+    requires most { size ≤ 16_384 }
     ensures { (h : RequestHead) → Tells head.now h → IsTold number size rest.now h result }
 {
-    let body = size_of(head.length);
-    if let Size::NoLength = body {
-        return fatal(Fatal::Length, size);
+    match size_of(head.length) {
+        Size::NoLength => Next::Message(fatal(Fatal::Length, size)),
+        _ if head.coded => Next::Message(fatal(Fatal::Coding, size)),
+        Size::TooLong(digits) => Next::Message(fatal(Fatal::TooLong(digits), size)),
+        Size::Bytes(most) => with_body(router, number, size, rest, head, most),
     }
-    if head.coded {
-        return fatal(Fatal::Coding, size);
+}
+
+// The message of such a head with a body of so many bytes.
+fn with_body<'a>(
+    router: &Router<Kind>,
+    number: u32,
+    size: usize,
+    rest: &'a [u8],
+    head: &Head<'a>,
+    most: usize,
+) -> Next<'a>
+    requires router { router.now ≡ route_rows }
+    requires most { size + most ≤ 81_920 }
+    ensures { (h : RequestHead) → Tells head.now h → IsBodied number size rest.now h most result }
+{
+    if rest.len() < most {
+        return Next::Wants(size + most);
     }
-    match body {
-        Size::Bytes(most) => {
-            if rest.len() < most {
-                return Next::Wants(size + most);
-            }
-            let (body, _) = rest.split_at(most);
-            Next::Message(Message {
-                what: what_of(router, head, body),
-                size: size + most,
-                closes: is_last(number, head),
-            })
-        }
-        Size::TooLong(digits) => fatal(Fatal::TooLong(digits), size),
-        Size::NoLength => fatal(Fatal::Length, size),
-    }
+    let (body, _) = rest.split_at(most);
+    Next::Message(Message {
+        what: what_of(router, head, body),
+        size: size + most,
+        closes: is_last(number, head),
+    })
 }
 
 // What a head and a body ask: the path decides, and then the method.
@@ -97,7 +115,9 @@ fn what_of<'a>(router: &Router<Kind>, head: &Head<'a>, body: &'a [u8]) -> What<'
 }
 
 // The one value of a field, where it is a text.
-fn one_text(found: Found<'_>) -> Option<&str> {
+fn one_text(found: Found<'_>) -> Option<&str>
+    ensures { (values : List (List ℕ)) → IsFound found.entry values → option_map (λ p. p.now) result ≡ messages.one_text values }
+{
     let Found::One(value) = found else {
         return None;
     };

@@ -1,5 +1,5 @@
 // How many bytes a body has, by the field Content-Length.
-ghost use Rattle.pg_next.specs.Sizes.{IsSize, IsSizeOf};
+ghost use Rattle.pg_next.specs.Sizes.{IsSize, IsSizeOf, FitsBody};
 ghost use Rattle.pg_heads.specs.Told.{IsFound};
 ghost use Rattle.std.specs.Prelude.{◌≡◌, ◌≤◌, ◌+◌, ◌*◌, ◌-◌, List, ℕ, min};
 
@@ -21,7 +21,8 @@ pub enum Size<'a> {
 
 /// The size of a body. Without the field it is 0.
 pub fn size_of(length: Found<'_>) -> Size<'_>
-    ensures { (values : List (List ℕ)) → IsFound length.entry values → IsSizeOf values result }
+    ensures size { (values : List (List ℕ)) → IsFound length.entry values → IsSizeOf values result }
+    ensures fits { FitsBody result }
 {
     match length {
         Found::Absent => Size::Bytes(0),
@@ -57,5 +58,9 @@ fn capped(value: usize, digit: u8) -> usize
     ensures value { result ≡ min 65_537 (value * 10 + (digit - 48)) }
 {
     let next = value * 10 + usize::from(digit - b'0');
-    if next > BODY_BYTES { BODY_BYTES + 1 } else { next }
+    if next > BODY_BYTES {
+        BODY_BYTES + 1
+    } else {
+        next
+    }
 }
