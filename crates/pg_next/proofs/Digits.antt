@@ -1,8 +1,10 @@
 -- The size that digits write, read one by one.
-use Rattle.std.proofs.Common.{◌≡◌, ◌≤◌, ◌<◌, ℕ, ◌+◌, ◌*◌, ◌-◌, min, suc, Bool, true, false, ◌&&◌, List, [], ◌∷◌, length, get_or, drop, sym as flip, ◌∙◌, ap, refl, arith, add-one, drop-cons}
+use Rattle.std.proofs.Common.{◌≡◌, ◌≤◌, ◌<◌, ℕ, ◌+◌, ◌*◌, ◌-◌, min, Bool, true, false, ◌&&◌, ◌==◌, List, [], ◌∷◌, length, get_or, drop, sym as flip, ◌∙◌, ap, refl, arith, add-one, drop-cons}
 use Rattle.std.specs.Prelude.{nat_lt, nat_le}
 use Rattle.std.specs.Char.{is_ascii_digit, digit_value}
-use Rattle.std.specs.Str.{all_ascii_digits}
+use Rattle.std.specs.Str.{all_ascii_digits, IsAscii, IsUtf8}
+use Rattle.std.proofs.lemmas.Str.Ascii.{IsAscii-nil, IsAscii-cons}
+use Rattle.std.proofs.lemmas.Str.{IsUtf8-from_ascii}
 use Rattle.std.specs.Str.Parse.{digits_value, digits_value_after}
 use Rattle.std.proofs.lemmas.Bool.Decides.{nat_tests}
 use Rattle.pg_messages.specs.Paths.{is_digits}
@@ -89,3 +91,22 @@ all-read ds at value end some h =
       same = ap (λ t. min 65537 (digits_value_after 10 value t)) (flip none) ∙ h.whole;
       most = h.most;
     }
+
+ascii-digits : (ds : List ℕ) → all_ascii_digits ds ≡ true → IsAscii ds
+ascii-digits [] h = IsAscii-nil
+ascii-digits (d ∷ ds) h =
+    (elim (is_ascii_digit d) as (λ v. is_ascii_digit d ≡ v → (v && all_ascii_digits ds) ≡ true → IsAscii (d ∷ ds)) [
+      | true ↦ λ e h. let range = digit-low d e in let small : d < 128 = omega (arith, range.1) in IsAscii-cons d ds small (ascii-digits ds h)
+      | false ↦ λ e h. let none : ⊥ = cc in absurd none
+    ]) refl h
+
+-- digits are a text
+pub digits-text : (ds : List ℕ) → is_digits ds ≡ true → IsUtf8 ds
+digits-text ds h =
+    (elim (nat_lt 0 (length ds)) as (λ v. (v && all_ascii_digits ds) ≡ true → IsUtf8 ds) [
+      | true ↦ λ e. IsUtf8-from_ascii ds (ascii-digits ds e)
+      | false ↦ λ e. let none : ⊥ = cc in absurd none
+    ]) h
+
+pub some-of : (b : Bool) (n : ℕ) → b ≡ (n == 0) → b ≡ false → 0 < n
+some-of b n is e = let h : (n == 0) ≡ false = flip is ∙ e in grind (arith, nat_tests, h)

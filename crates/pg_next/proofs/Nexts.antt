@@ -1,9 +1,9 @@
 -- The message at the front, by what was read of its head.
-use Rattle.std.proofs.Common.{◌≡◌, ◌≤◌, ◌<◌, ℕ, ◌+◌, List, length, take, drop, Option, Some, None, sym as flip, ◌∙◌, ap, subst}
+use Rattle.std.proofs.Common.{◌≡◌, ◌≤◌, ℕ, ◌+◌, List, length, take, drop, Some, sym as flip, ◌∙◌, ap, subst}
 use Rattle.std.proofs.lemmas.List.{drop-take}
 use Rattle.httparse.specs.Grammar.{RequestHead}
-use Rattle.pg_messages.specs.Head.{head_scan, ended, IsWholeHead, IsHead}
-use Rattle.pg_messages.specs.Messages.{IsNextAt, IsNext, WaitsFor, of_head}
+use Rattle.pg_messages.specs.Head.{head_scan, ended, IsWholeHead}
+use Rattle.pg_messages.specs.Messages.{IsNextAt, WaitsFor}
 use Rattle.pg_messages.proofs.Scans.{ScanIs, scan-is}
 use Rattle.pg_messages.proofs.Laws.{waits-for-body}
 use Rattle.pg_next.specs.View.{IsNextTold, IsTold, message_view}

@@ -1,5 +1,5 @@
 -- The one value of a field, where it is a text.
-use Rattle.std.proofs.Common.{◌≡◌, ◌∙◌, sym as flip, ap, subst, refl, ℕ, Bool, true, false, cond, List, Option, Some, None, Result, Ok, Err, MatchResult, option_map, Bor}
+use Rattle.std.proofs.Common.{◌≡◌, ◌∙◌, sym as flip, ap, refl, ℕ, true, false, cond, List, Option, Some, None, Result, Ok, Err, MatchResult, option_map, Bor}
 use Rattle.std.specs.Result.{result_ok}
 use Rattle.std.specs.Str.{is_utf8, IsUtf8}
 use Rattle.std.proofs.lemmas.Str.{IsUtf8-from_is_utf8, is_utf8-from_IsUtf8}

@@ -1,5 +1,5 @@
 -- The size of a body by the digits of Content-Length.
-use Rattle.std.specs.Prelude.{◌≡◌, ◌<◌, ◌≤◌, ℕ, true, false, List, Option, Some, None, ⊤}
+use Rattle.std.specs.Prelude.{◌≡◌, ◌<◌, ◌≤◌, ℕ, true, false, List, Some, None, ⊤}
 use Rattle.std.specs.Str.Parse.{digits_value}
 use Rattle.pg_messages.specs.Paths.{is_digits}
 use Rattle.pg_messages.specs.Messages.{length_digits}

@@ -1,33 +1,43 @@
 -- What messages stand for.
-use Rattle.std.specs.Prelude.{◌≡◌, ◌<◌, ◌≤◌, ◌+◌, ℕ, List, ◌++◌, length, Option, Some, None, codes}
+use Rattle.std.specs.Prelude.{◌≡◌, ◌<◌, ◌≤◌, ◌+◌, ℕ, List, length, Some, None, codes, ⊤}
 use Rattle.httparse.specs.Grammar.{RequestHead}
 use Rattle.pg_messages.specs.Messages as messages
 use Rattle.pg_messages.specs.Replies.{in_json}
-use Rattle.pg_paths.specs.View.{verb_view}
+use Rattle.pg_messages.specs.Paths.{verb_of}
+use Rattle.pg_paths.specs.View.{verb_view, route_view}
 use Rattle.pg_wire.specs.View.{ask_of}
-use Rattle.pg_next.specs.declared.message.Fatal.{Fatal}
-use Rattle.pg_next.specs.declared.message.Fatal.TheVariants.{HeadLimit, Head, Length, Coding, TooLong}
+use Rattle.pg_next.specs.declared.message.Refusal.{Refusal}
+use Rattle.pg_next.specs.declared.message.Refusal.TheVariants.{HeadLimit, Head, Length, Coding, TooLong, NoRoute, NotItsVerb}
 use Rattle.pg_next.specs.declared.message.What.{What}
-use Rattle.pg_next.specs.declared.message.What.TheVariants as whats
+use Rattle.pg_next.specs.declared.message.What.TheVariants.{Asks, Refused}
 use Rattle.pg_next.specs.declared.message.Message as told
 use Rattle.pg_next.specs.declared.next.Next.{Next}
 use Rattle.pg_next.specs.declared.next.Next.TheVariants as nexts
 
-abbrev pub fatal_view : Fatal → messages.What
-fatal_view HeadLimit = messages.fatal (in_json 431 (codes "{\"error\":\"head-limit\"}"))
-fatal_view Head = messages.fatal (in_json 400 (codes "{\"error\":\"head\"}"))
-fatal_view Length = messages.fatal (in_json 400 (codes "{\"error\":\"length\"}"))
-fatal_view Coding = messages.fatal (in_json 501 (codes "{\"error\":\"transfer-coding\"}"))
-fatal_view (TooLong digits) = messages.fatal (in_json 413 (messages.too_long_body digits.now))
+abbrev pub refusal_view : Refusal → messages.What
+refusal_view HeadLimit = messages.fatal (in_json 431 (codes "{\"error\":\"head-limit\"}"))
+refusal_view Head = messages.fatal (in_json 400 (codes "{\"error\":\"head\"}"))
+refusal_view Length = messages.fatal (in_json 400 (codes "{\"error\":\"length\"}"))
+refusal_view Coding = messages.fatal (in_json 501 (codes "{\"error\":\"transfer-coding\"}"))
+refusal_view (TooLong digits) = messages.fatal (in_json 413 (messages.too_long_body digits.now))
+refusal_view NoRoute = messages.refused (in_json 404 (codes "{\"error\":\"route\"}")) None
+refusal_view (NotItsVerb verb) = messages.refused (in_json 405 (codes "{\"error\":\"method\"}")) (Some (verb_view verb))
 
 abbrev pub what_view : What → messages.What
-what_view (whats.Asks request) = messages.asks (ask_of request)
-what_view whats.NoRoute = messages.refused (in_json 404 (codes "{\"error\":\"route\"}")) None
-what_view (whats.NotItsVerb verb) = messages.refused (in_json 405 (codes "{\"error\":\"method\"}")) (Some (verb_view verb))
-what_view (whats.Fatal why) = fatal_view why
+what_view (Asks request) = messages.asks (ask_of request)
+what_view (Refused refusal) = refusal_view refusal
+
+-- a request for the service has the verb of its route
+abbrev pub IsRouted : What → Type 0
+IsRouted (Asks request) = verb_view request.method ≡ verb_of (route_view request.route)
+IsRouted (Refused refusal) = ⊤
 
 abbrev pub message_view : told.Message → messages.Message
 message_view m = record { what = what_view m.what; size = m.size; closes = m.closes }
+
+abbrev pub AsksRouted : Next → Type 0
+AsksRouted (nexts.Message m) = IsRouted m.what
+AsksRouted (nexts.Wants size) = ⊤
 
 -- the message at the front of the bytes, or so many bytes decide it at the earliest
 abbrev pub IsNextTold : ℕ → List ℕ → Next → Type 0

@@ -5,5 +5,5 @@ pub mod message;
 pub mod next;
 pub mod size;
 
-pub use message::{Fatal, Message, What};
+pub use message::{Message, Refusal, What};
 pub use next::{Next, next_message};

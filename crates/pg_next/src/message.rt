@@ -1,14 +1,11 @@
 // A message of a connection.
-ghost use Rattle.std.specs.Prelude.{◌≡◌};
-ghost use Rattle.pg_messages.specs.Messages as messages;
-
 use pg_paths::Verb;
 use pg_wire::Request;
 
-/// A refusal that ends the connection.
+/// A request that no service gets.
 #[derive(Clone, Copy)]
-pub enum Fatal<'a> {
-    /// 431: the head is longer than a head may be.
+pub enum Refusal<'a> {
+    /// 431: the head is longer than a head may be. The connection ends, as by the next four.
     HeadLimit,
     /// 400: the bytes are no head.
     Head,
@@ -17,7 +14,11 @@ pub enum Fatal<'a> {
     /// 501: a transfer coding.
     Coding,
     /// 413: the body is longer than a body may be. The digits as they were sent.
-    TooLong(&'a [u8]),
+    TooLong(&'a str),
+    /// 404: its path has no route. The connection goes on, as by the next one.
+    NoRoute,
+    /// 405: its method isn't this one of its path.
+    NotItsVerb(Verb),
 }
 
 /// What a message is.
@@ -25,15 +26,10 @@ pub enum Fatal<'a> {
 pub enum What<'a> {
     /// A request for the service.
     Asks(Request<'a>),
-    /// 404: its path has no route.
-    NoRoute,
-    /// 405: its method isn't this one of its path.
-    NotItsVerb(Verb),
-    /// A refusal after which the connection ends.
-    Fatal(Fatal<'a>),
+    Refused(Refusal<'a>),
 }
 
-/// A message, how many bytes it has, and whether the connection ends by it.
+/// A message, how many bytes it has, and whether its reply says that the connection ends.
 #[derive(Clone, Copy)]
 pub struct Message<'a> {
     pub what: What<'a>,

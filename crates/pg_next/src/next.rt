@@ -4,9 +4,9 @@ ghost use Rattle.httparse.specs.Grammar.{RequestHead};
 ghost use Rattle.pg_messages.specs.Messages as messages;
 ghost use Rattle.pg_heads.specs.Told.{Tells, IsFound};
 ghost use Rattle.pg_paths.specs.Routes.{route_rows};
-ghost use Rattle.pg_next.specs.View.{IsNextTold, IsTold, IsBodied, what_view, message_view, fatal_view};
+ghost use Rattle.pg_next.specs.View.{IsNextTold, IsTold, IsBodied, what_view, message_view, refusal_view, IsRouted, AsksRouted};
 
-use crate::message::{Fatal, Message, What};
+use crate::message::{Message, Refusal, What};
 use crate::size::{Size, size_of};
 use matchit::Router;
 use pg_heads::{Found, Head, Scan, head_scan, read_head};
@@ -23,28 +23,31 @@ pub enum Next<'a> {
 /// The message at the front of the bytes, which is the connection's of this number, from 0 on.
 pub fn next_message<'a>(router: &Router<Kind>, number: u32, bytes: &'a [u8]) -> Next<'a>
     requires { router.now ≡ route_rows }
-    ensures { IsNextTold number bytes.now result }
+    ensures next { IsNextTold number bytes.now result }
+    ensures routed { AsksRouted result }
 {
     match head_scan(bytes) {
         Scan::Open => Next::Wants(bytes.len() + 1),
-        Scan::OverLimit => Next::Message(fatal(Fatal::HeadLimit, 0)),
+        Scan::OverLimit => Next::Message(last(Refusal::HeadLimit, 0)),
         Scan::Ended { blank, head } => {
             let size = blank + head;
             let (front, rest) = bytes.split_at(size);
             let (_, head) = front.split_at(blank);
             match read_head(head) {
-                None => Next::Message(fatal(Fatal::Head, size)),
+                None => Next::Message(last(Refusal::Head, size)),
                 Some(told) => of_head(router, number, size, rest, &told),
             }
         }
     }
 }
 
-fn fatal(why: Fatal<'_>, size: usize) -> Message<'_>
-    ensures { message_view result ≡ record { what = fatal_view why.entry; size = size; closes = true } }
+// A refusal by which the connection ends.
+fn last(why: Refusal<'_>, size: usize) -> Message<'_>
+    ensures routed { IsRouted result.what }
+    ensures message { message_view result ≡ record { what = refusal_view why.entry; size = size; closes = true } }
 {
     Message {
-        what: What::Fatal(why),
+        what: What::Refused(why),
         size,
         closes: true,
     }
@@ -60,12 +63,13 @@ fn of_head<'a>(
 ) -> Next<'a>
     requires router { router.now ≡ route_rows }
     requires most { size ≤ 16_384 }
-    ensures { (h : RequestHead) → Tells head.now h → IsTold number size rest.now h result }
+    ensures told { (h : RequestHead) → Tells head.now h → IsTold number size rest.now h result }
+    ensures routed { AsksRouted result }
 {
     match size_of(head.length) {
-        Size::NoLength => Next::Message(fatal(Fatal::Length, size)),
-        _ if head.coded => Next::Message(fatal(Fatal::Coding, size)),
-        Size::TooLong(digits) => Next::Message(fatal(Fatal::TooLong(digits), size)),
+        Size::NoLength => Next::Message(last(Refusal::Length, size)),
+        _ if head.coded => Next::Message(last(Refusal::Coding, size)),
+        Size::TooLong(digits) => Next::Message(last(Refusal::TooLong(digits), size)),
         Size::Bytes(most) => with_body(router, number, size, rest, head, most),
     }
 }
@@ -81,7 +85,8 @@ fn with_body<'a>(
 ) -> Next<'a>
     requires router { router.now ≡ route_rows }
     requires most { size + most ≤ 81_920 }
-    ensures { (h : RequestHead) → Tells head.now h → IsBodied number size rest.now h most result }
+    ensures told { (h : RequestHead) → Tells head.now h → IsBodied number size rest.now h most result }
+    ensures routed { AsksRouted result }
 {
     if rest.len() < most {
         return Next::Wants(size + most);
@@ -97,14 +102,15 @@ fn with_body<'a>(
 // What a head and a body ask: the path decides, and then the method.
 fn what_of<'a>(router: &Router<Kind>, head: &Head<'a>, body: &'a [u8]) -> What<'a>
     requires { router.now ≡ route_rows }
-    ensures { (h : RequestHead) → Tells head.now h → what_view result ≡ messages.what_of h body.now }
+    ensures routed { IsRouted result }
+    ensures what { (h : RequestHead) → Tells head.now h → what_view result ≡ messages.what_of h body.now }
 {
     let Some(route) = route_of(router, path_of(head.target)) else {
-        return What::NoRoute;
+        return What::Refused(Refusal::NoRoute);
     };
     let verb = route.verb();
     if head.method != verb.word().as_bytes() {
-        return What::NotItsVerb(verb);
+        return What::Refused(Refusal::NotItsVerb(verb));
     }
     What::Asks(Request {
         method: verb,

@@ -16,7 +16,7 @@ pub enum Size<'a> {
     /// It is no number, or there is more than one.
     NoLength,
     /// More than a body may have: the digits as they were sent.
-    TooLong(&'a [u8]),
+    TooLong(&'a str),
 }
 
 /// The size of a body. Without the field it is 0.
@@ -45,10 +45,13 @@ fn digits_size(digits: &[u8]) -> Size<'_>
     if digits.is_empty() {
         return Size::NoLength;
     }
-    if value > BODY_BYTES {
-        return Size::TooLong(digits);
+    if value <= BODY_BYTES {
+        return Size::Bytes(value);
     }
-    Size::Bytes(value)
+    match str::from_utf8(digits) {
+        Ok(text) => Size::TooLong(text),
+        Err(_) => Size::NoLength,
+    }
 }
 
 // The value with one digit more, or one byte more than a body may have.

@@ -1,4 +1,4 @@
-use Rattle.std.proofs.Common.{◌≡◌, ◌∙◌, sym as flip, ap, subst, ℕ, List, [], ◌∷◌}
+use Rattle.std.proofs.Common.{◌≡◌, ◌∙◌, sym as flip, ap, subst, [], ◌∷◌}
 use Rattle.std.specs.Str.{IsValidUpTo, valid_up_to}
 use Rattle.pg_messages.specs.Messages as messages
 use Rattle.pg_heads.specs.Told.{IsFound}

@@ -1,5 +1,4 @@
-use Rattle.std.proofs.Common.{◌≡◌, ◌≤◌, ◌∙◌, sym as flip, ap, refl, arith, codes, ℕ, List, [], ◌∷◌, length, Some, None, true, false, cond, subst}
-use Rattle.std.specs.Str.Parse.{digits_value}
+use Rattle.std.proofs.Common.{◌≡◌, ap, refl, arith, codes, [], subst}
 use Rattle.pg_heads.specs.Told.{IsFound}
 use Rattle.pg_messages.specs.Messages.{length_digits}
 use Rattle.pg_next.proofs.size.size_of.Goals as goal
