@@ -1,10 +1,8 @@
 -- What was written of a reply.
-use Rattle.std.proofs.Common.{◌≡◌, ◌<◌, ◌+◌, ℕ, Bool, List, ◌++◌, length, Option, Some, None, Result, sym as flip, subst, refl, arith}
-use Rattle.std.specs.Prelude.{codes}
-use Rattle.std.proofs.lemmas.List.{length-append}
+use Rattle.std.proofs.Common.{◌≡◌, ◌<◌, ℕ, Bool, List, length, Option, None, Result, sym as flip, subst, refl, arith}
 use Rattle.pg_base.specs.declared.outside.OutFault.{OutFault}
 use Rattle.pg_messages.specs.Paths.{Verb}
-use Rattle.pg_messages.specs.Replies.{Said, as_sent, reply_bytes, message_bytes}
+use Rattle.pg_messages.specs.Replies.{Said, reply_bytes}
 use Rattle.pg_messages.specs.Links.{Service, Answers, allow_of, WrotePart}
 use Rattle.pg_messages.proofs.Going.{appends-none}
 use Rattle.pg_wire.specs.declared.service.Request.{Request}
