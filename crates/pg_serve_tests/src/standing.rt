@@ -1,6 +1,5 @@
 // A small service, and what serving an input by it comes to.
-ghost use Rattle.std.specs.Prelude.{◌≡◌, ◌<◌, ⊤};
-ghost use Rattle.pg_wire.specs.Statuses.{IsReplyStatus};
+ghost use Rattle.std.specs.Prelude.{◌<◌, ⊤};
 
 use pg_base::MemoryLink;
 use pg_serve::serve_link;
@@ -16,9 +15,7 @@ struct Echo {
 impl Service for Echo {
     ghost answers = { λ old ask said new. ⊤ };
 
-    fn answer(&mut self, alloc: Global, request: &Request<'_>) -> Reply
-        ensures status { IsReplyStatus result.status }
-    {
+    fn answer(&mut self, alloc: Global, request: &Request<'_>) -> Reply {
         self.asked = self.asked.saturating_add(1);
         let number = self.asked;
         let pass = request.pass.unwrap_or("-");
