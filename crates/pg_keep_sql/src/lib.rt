@@ -1,0 +1,7 @@
+//! A keeper of a class's rows over an SQL database, in a file or in memory.
+#![tactic(auto)]
+
+mod keeper;
+mod statements;
+
+pub use keeper::SqlKeeper;
