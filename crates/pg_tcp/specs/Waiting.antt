@@ -1,5 +1,5 @@
 -- Where a door waits, and what it gives there.
-use Rattle.std.specs.Prelude.{◌≡◌, Option, Some, None, IsSome, IfOk, Result, Ok, Err}
+use Rattle.std.specs.Prelude.{◌≡◌, Option, None, IsSome, IfOk, Result, Ok, Err}
 use Rattle.pg_base.specs.declared.outside.OutFault.{OutFault}
 use Rattle.pg_base.specs.declared.outside.Place.{Place}
 use Rattle.pg_base.specs.declared.outside.Place.TheVariants.{Standard, Port}

@@ -1,9 +1,10 @@
 // A door at the place that it is started with. What comes through it isn't told. Each failure is counted.
-ghost use Rattle.std.specs.Prelude.{◌≡◌, ◌≢◌, ◌≤◌, None, Err, [], IfOk, MatchResult};
+ghost use Rattle.std.specs.Prelude.{◌≡◌, ◌≢◌, ◌≤◌, None, Some, Err, [], IfOk, MatchResult};
 ghost use Rattle.pg_base.specs.declared.outside.OutFault.TheVariants.{Failed, OutOfMemory};
 ghost use Rattle.pg_base.specs.Outside.{Asks, HasCause, no_counts, next_counts};
 ghost use Rattle.pg_base.specs.Calls.{CountsFailures, next_number};
 ghost use Rattle.pg_base.specs.Standard.{counts_of};
+ghost use Rattle.pg_tcp.specs.declared.door.Waits.TheVariants.{Nowhere};
 ghost use Rattle.pg_tcp.specs.Waiting.{GivesAt, StartsAt, left_at};
 
 use crate::ends::{Input, Output};
@@ -37,6 +38,13 @@ pub struct HostDoor<N: Net, I, O> {
 impl<N: Net, I: Read, O: Write> HostDoor<N, I, O> {
     /// A door with these standard streams, that waits nowhere yet. No call failed.
     pub fn new(alloc: Global, net: N, input: I, output: O) -> Self
+        ensures waits { result.waits ≡ Nowhere }
+        ensures standard { result.standard ≡ Some (record {
+          input = Input.Standard input;
+          output = Output.Standard output;
+          read_faults = 0;
+          write_faults = 0;
+        }) }
         ensures places { result.places.items ≡ [] }
         ensures faults { result.faults ≡ 0 }
         ensures counts { (result.given ≡ no_counts) × (result.ended ≡ no_counts) }
