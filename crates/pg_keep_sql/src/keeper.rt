@@ -1,23 +1,16 @@
 // The keeper over SQL. It tells nothing of its rows, and counts its failures.
-ghost use Rattle.std.specs.Prelude.{◌≡◌, ◌≤◌, [], None, IfOk};
+ghost use Rattle.std.specs.Prelude.{◌≡◌, [], None, IfOk, OnOk, OnErr};
 ghost use Rattle.pg_base.specs.Outside.{Asks, HasCause};
 ghost use Rattle.pg_base.specs.Calls.{CountsFailures};
 ghost use Rattle.pg_keep.specs.Rows.{IsShort, entry_of};
 ghost use Rattle.pg_keep.specs.Keeping.{kept_name, name_of};
-ghost use Rattle.pg_keep_sql.specs.Store.{kept_names};
+ghost use Rattle.pg_keep_sql.specs.declared.store.Store.TheVariants.{Closed};
+ghost use Rattle.pg_keep_sql.specs.Store.{Appends, Finds, StandsFor, kept_names};
 
-use crate::statements::{add, fault_of, find, make_table};
+use crate::store::Store;
 use pg_base::OutFault;
 use pg_keep::{Keeper, Row};
-use sqlite::{Connection, File, FileStore, MemStore};
 use std::alloc::{AllocError, Global};
-
-#[derive(Drop)]
-enum Store {
-    Closed,
-    File(Connection<FileStore<File>>),
-    Memory(Connection<MemStore>),
-}
 
 /// Rows in a file of the runtime `R`, or in memory.
 #[derive(Drop)]
@@ -31,6 +24,7 @@ pub struct SqlKeeper<R> {
 impl<R> SqlKeeper<R> {
     /// A keeper that wasn't started: until it is, each call is a counted fault.
     pub fn new(alloc: Global, rt: R) -> SqlKeeper<R>
+        ensures store { result.store ≡ Closed }
         ensures asked { result.asked.items ≡ [] }
         ensures faults { result.faults ≡ 0 }
     {
@@ -57,8 +51,11 @@ impl Keeper for SqlKeeper<HostRuntime> {
 
     ghost faults = { λ k. k.faults };
 
-    /// The place in the list is taken before the store is opened, so that it isn't the name that wants memory.
+    /// The place in the list is taken before the store is opened, so that it isn't the name that
+    /// wants memory. Where the store isn't opened, the one before stays.
     fn start(&mut self, alloc: Global, name: Option<&str>) -> Result<(), OutFault>
+        ensures opens { OnOk result (StandsFor (name_of name.entry) self.new.store) }
+        ensures leaves { OnErr result (self.new.store ≡ self.old.store) }
         ensures asked { Asks (kept_names self.old.asked.items) (kept_names self.new.asked.items)
             result (name_of name.entry) }
         ensures cause { HasCause self.old.faults self.new.faults result }
@@ -66,7 +63,7 @@ impl Keeper for SqlKeeper<HostRuntime> {
     {
         let asked = kept(alloc, name)?;
         self.asked.reserve(1)?;
-        match opened(alloc, &self.rt, name) {
+        match counted(&mut self.faults, Store::open(alloc, &self.rt, name)) {
             Ok(store) => {
                 self.asked.push(asked)?;
                 self.store = store;
@@ -74,36 +71,30 @@ impl Keeper for SqlKeeper<HostRuntime> {
             }
             Err(OutFault::Failed) => {
                 self.asked.push(asked)?;
-                counted(&mut self.faults, Err(OutFault::Failed))
+                Err(OutFault::Failed)
             }
             Err(OutFault::OutOfMemory) => Err(OutFault::OutOfMemory),
         }
     }
 
     fn rows_of(&mut self, alloc: Global, player: &str) -> Result<Vec<Row>, OutFault>
+        ensures found { Finds player.now result self.old.store self.new.store }
         ensures asked { self.new.asked ≡ self.old.asked }
         ensures cause { HasCause self.old.faults self.new.faults result }
         ensures faults { CountsFailures self.old.faults self.new.faults result }
     {
-        let found = match &mut self.store {
-            Store::Closed => Err(OutFault::Failed),
-            Store::File(conn) => find(alloc, conn, player).map_err(fault_of),
-            Store::Memory(conn) => find(alloc, conn, player).map_err(fault_of),
-        };
+        let found = self.store.find(alloc, player);
         counted(&mut self.faults, found)
     }
 
     fn append(&mut self, _alloc: Global, row: &Row) -> Result<(), OutFault>
         requires { IsShort (entry_of row.now) }
+        ensures appends { Appends (entry_of row.now) result self.old.store self.new.store }
         ensures asked { self.new.asked ≡ self.old.asked }
         ensures cause { HasCause self.old.faults self.new.faults result }
         ensures faults { CountsFailures self.old.faults self.new.faults result }
     {
-        let added = match &mut self.store {
-            Store::Closed => Err(OutFault::Failed),
-            Store::File(conn) => add(conn, row),
-            Store::Memory(conn) => add(conn, row),
-        };
+        let added = self.store.add(row);
         counted(&mut self.faults, added)
     }
 }
@@ -118,26 +109,6 @@ fn counted<T>(faults: &mut u64, answer: Result<T, OutFault>) -> Result<T, OutFau
         *faults = faults.saturating_add(1);
     }
     answer
-}
-
-/// The store of this name, or one in memory, with its table.
-fn opened(alloc: Global, rt: &HostRuntime, name: Option<&str>) -> Result<Store, OutFault> {
-    match name {
-        Some(path) => match Connection::open(rt, path) {
-            Ok(mut conn) => {
-                make_table(&mut conn)?;
-                Ok(Store::File(conn))
-            }
-            Err(error) => Err(fault_of(error)),
-        },
-        None => match Connection::open_in_memory(alloc) {
-            Ok(mut conn) => {
-                make_table(&mut conn)?;
-                Ok(Store::Memory(conn))
-            }
-            Err(_) => Err(OutFault::OutOfMemory),
-        },
-    }
 }
 
 /// The name of a store, to be kept in a list.

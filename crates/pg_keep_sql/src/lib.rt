@@ -3,5 +3,6 @@
 
 mod keeper;
 mod statements;
+mod store;
 
 pub use keeper::SqlKeeper;

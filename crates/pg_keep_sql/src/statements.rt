@@ -1,29 +1,36 @@
 // The statements of the store, each by its own text with parameters.
-ghost use Rattle.std.specs.Prelude.{◌≡◌, ◌↔◌};
+ghost use Rattle.std.specs.Prelude.{◌≡◌, map, string_bytes, IfOk};
+ghost use Rattle.sqlite.specs.Held.{state};
+ghost use Rattle.pg_keep.specs.Rows.{entry_of};
+ghost use Rattle.pg_keep_sql.specs.Statements.{Inserts, MakesTable, Selects, fault, values, with_player};
 
 use pg_base::OutFault;
 use pg_keep::Row;
 use sqlite::{Alter, Connection, Error, ErrorCode, params};
 use std::alloc::Global;
 
-const TABLE: &str = "CREATE TABLE IF NOT EXISTS attempt (player TEXT NOT NULL, no INTEGER NOT NULL, world TEXT NOT NULL, level INTEGER NOT NULL, script TEXT NOT NULL, closed INTEGER NOT NULL, PRIMARY KEY (player, no)) STRICT";
+const TABLE: &str =
+    "CREATE TABLE IF NOT EXISTS attempt (player TEXT NOT NULL, no INTEGER NOT NULL, world TEXT NOT NULL, level INTEGER NOT NULL, script TEXT NOT NULL, closed INTEGER NOT NULL, PRIMARY KEY (player, no)) STRICT";
 
-const INSERT: &str = "INSERT INTO attempt (player, no, world, level, script, closed) VALUES (?1, ?2, ?3, ?4, ?5, ?6)";
+const INSERT: &str =
+    "INSERT INTO attempt (player, no, world, level, script, closed) VALUES (?1, ?2, ?3, ?4, ?5, ?6)";
 
 const SELECT: &str =
     "SELECT no, world, level, script, closed FROM attempt WHERE player = ?1 ORDER BY no";
 
 /// Makes the table where there is none.
-pub(crate) fn make_table<S: Alter>(conn: &mut Connection<S>) -> Result<(), OutFault> {
-    match conn.execute(TABLE, &[]) {
-        Ok(_) => Ok(()),
-        Err(error) => Err(fault_of(error)),
-    }
+pub(crate) fn make_table<S: Alter>(conn: &mut Connection<S>) -> Result<(), Error>
+    ensures { MakesTable result (state S.Store conn.old) (state S.Store conn.new) }
+{
+    conn.execute(TABLE, &[])?;
+    Ok(())
 }
 
 /// Puts a row into the table. A row of that player with that number is there at most once.
-pub(crate) fn add<S: Alter>(conn: &mut Connection<S>, row: &Row) -> Result<(), OutFault> {
-    let ran = conn.execute(
+pub(crate) fn add<S: Alter>(conn: &mut Connection<S>, row: &Row) -> Result<(), Error>
+    ensures { Inserts (entry_of row.now) result (state S.Store conn.old) (state S.Store conn.new) }
+{
+    conn.execute(
         INSERT,
         params![
             &row.player,
@@ -33,11 +40,8 @@ pub(crate) fn add<S: Alter>(conn: &mut Connection<S>, row: &Row) -> Result<(), O
             &row.script,
             row.closed
         ],
-    );
-    match ran {
-        Ok(_) => Ok(()),
-        Err(error) => Err(fault_of(error)),
-    }
+    )?;
+    Ok(())
 }
 
 /// The rows of a player by their numbers.
@@ -45,29 +49,40 @@ pub(crate) fn find<S: Alter>(
     alloc: Global,
     conn: &mut Connection<S>,
     player: &str,
-) -> Result<Vec<Row>, Error> {
+) -> Result<Vec<Row>, Error>
+    ensures { IfOk result (λ found.
+        Selects player.now (map entry_of found.items) (state S.Store conn.old) (state S.Store conn.new)) }
+{
+    let shown = conn.query_all(SELECT, params![player])?;
+    rows_from(alloc, &shown, player)
+}
+
+/// What is shown of a player's rows as rows.
+fn rows_from(alloc: Global, shown: &[sqlite::Row], player: &str) -> Result<Vec<Row>, Error>
+    ensures { IfOk result (λ found.
+        map (with_player player.now) shown.now ≡ map values (map entry_of found.items)) }
+{
     let mut found = Vec::new(alloc);
-    let mut rows = conn.query(SELECT, params![player])?;
-    for _ in 0..u64::MAX {
-        let Some(kept) = rows.next()? else {
-            return Ok(found);
-        };
-        found.push(row_from(kept, String::from_str(alloc, player)?)?)?;
+    for row in shown {
+        found.push(row_from(row, String::from_str(alloc, player)?)?)?;
     }
     Ok(found)
 }
 
-/// A kept row, where its values fit.
-fn row_from(kept: &sqlite::Row, player: String) -> Result<Row, Error> {
-    let no: u32 = kept.get(0)?;
-    let world: String = kept.get(1)?;
-    let level: i64 = kept.get(2)?;
-    let script: String = kept.get(3)?;
-    let closed: i64 = kept.get(4)?;
+/// A row that is shown, where its values fit.
+fn row_from(shown: &sqlite::Row, player: String) -> Result<Row, Error>
+    ensures { IfOk result (λ row.
+        with_player (string_bytes player) shown.now ≡ values (entry_of row)) }
+{
+    let no: u32 = shown.get(0)?;
+    let world: String = shown.get(1)?;
+    let level: i64 = shown.get(2)?;
+    let script: String = shown.get(3)?;
+    let closed: i64 = shown.get(4)?;
     let Ok(level) = u16::try_from(level) else {
         return Err(Error::IntegralValueOutOfRange(2));
     };
-    if closed < 0 || closed > 1 {
+    if closed != 0 && closed != 1 {
         return Err(Error::IntegralValueOutOfRange(4));
     }
     Ok(Row {
@@ -82,7 +97,7 @@ fn row_from(kept: &sqlite::Row, player: String) -> Result<Row, Error> {
 
 /// Want of memory, or any other refusal.
 pub(crate) fn fault_of(error: Error) -> OutFault
-    ensures { (result ≡ OutFault.OutOfMemory) ↔ (error ≡ Error.SqliteFailure ErrorCode.OutOfMemory) }
+    ensures { result ≡ fault error }
 {
     match error {
         Error::SqliteFailure(ErrorCode::OutOfMemory) => OutFault::OutOfMemory,
