@@ -1,11 +1,11 @@
 -- The three statements of a store, and the values that rows have there.
-use Rattle.std.specs.Prelude.{◌≡◌, ℕ, ℤ, pos, Bool, List, [], ◌∷◌, map, codes, if◌then◌else◌, Result, Ok, Err}
+use Rattle.std.specs.Prelude.{◌≡◌, ◌≢◌, ◌<◌, ◌^◌, ◌⊎◌, ℕ, All, IsUtf8, ℤ, pos, Bool, List, [], ◌∷◌, map, codes, if◌then◌else◌, Result, Ok, Err}
 use Rattle.sqlite.specs.declared.types.Value.TheVariants.{Int, Text}
 use Rattle.sqlite.specs.Order.{Row, column}
 use Rattle.sqlite.specs.declared.error.ErrorCode.TheVariants as code
 use Rattle.sqlite.specs.declared.error.Error.{Error}
 use Rattle.sqlite.specs.declared.error.Error.TheVariants.{SqliteFailure}
-use Rattle.sqlite.specs.State.{State, HasCleanDisk, Executes, Shown}
+use Rattle.sqlite.specs.State.{State, HasCleanDisk, Executes, FailsToQuery, Shown}
 use Rattle.pg_base.specs.declared.outside.OutFault.{OutFault}
 use Rattle.pg_base.specs.declared.outside.OutFault.TheVariants.{Failed, OutOfMemory}
 use Rattle.pg_keep.specs.Rows.{Entry}
@@ -55,7 +55,28 @@ MakesTable result old new = HasCleanDisk new → Runs table_text [] result old n
 abbrev pub Inserts : {T : Type 0} → Entry → Result T Error → State → State → Type 0
 Inserts row result old new = HasCleanDisk new → Runs insert_text (values row) result old new
 
+-- what may stand in a kept row: numbers within their bounds, and texts
+pub record IsRow (row : Entry) : Type 0 where
+  pub no : row.no < 2 ^ 32
+  pub world : IsUtf8 row.world
+  pub level : row.level < 2 ^ 16
+  pub script : IsUtf8 row.script
+
+-- what was shown of a row of this player is a row
+abbrev pub Fits : List ℕ → Row → Type 0
+Fits player shown = (row : Entry) × IsRow row × (with_player player shown ≡ values row)
+
+-- it is not for want of memory
+abbrev pub IsRefusal : Error → Type 0
+IsRefusal e = e ≢ SqliteFailure code.OutOfMemory
+
 -- the rows are those that are shown of the player
 abbrev pub Selects : List ℕ → List Entry → State → State → Type 0
 Selects player rows old new = HasCleanDisk new → (shown : List Row)
     × Shown select_text (Text player ∷ []) old new shown × (map (with_player player) shown ≡ map values rows)
+
+-- the database refused to show them, or one that is shown is no row
+abbrev pub FailsToSelect : List ℕ → State → State → Type 0
+FailsToSelect player old new = HasCleanDisk new
+    → ((e : Error) × FailsToQuery select_text (Text player ∷ []) old new e)
+    ⊎ ((shown : List Row) × Shown select_text (Text player ∷ []) old new shown × (¬ All (Fits player) shown))

@@ -1,5 +1,5 @@
 -- What the calls of a keeper do to its store.
-use Rattle.std.specs.Prelude.{◌≡◌, ℕ, List, Option, Some, None, map, Result, Ok, Err, IfOk, String, Vec, []}
+use Rattle.std.specs.Prelude.{◌≡◌, ℕ, List, Option, Some, None, map, Result, Ok, Err, MatchResult, String, Vec, []}
 use Rattle.std.specs.declared.alloc.Global.{Global}
 use Rattle.sqlite.specs.State.{State, HasCleanDisk}
 use Rattle.sqlite.specs.Held.{state}
@@ -13,7 +13,7 @@ use Rattle.pg_keep.specs.declared.row.Row.{Row}
 use Rattle.pg_keep.specs.Keeping.{kept_name}
 use Rattle.pg_keep_sql.specs.declared.store.Store.{Store}
 use Rattle.pg_keep_sql.specs.declared.store.Store.TheVariants.{Closed, File, Memory}
-use Rattle.pg_keep_sql.specs.Statements.{HasRun, Inserts, Selects, fault, table_text}
+use Rattle.pg_keep_sql.specs.Statements.{FailsToSelect, HasRun, Inserts, Selects, fault, table_text}
 
 -- the names with which a keeper was started
 abbrev pub kept_names : List (Option (String Global)) → List (Option (List ℕ))
@@ -47,8 +47,10 @@ Appends row result = InStore
     (λ old new. (ran : Result (Unit {0}) Error) × Inserts row ran old new × (result ≡ told ran))
     (result ≡ Err Failed)
 
--- the rows of a player are found
+-- the rows of a player are found, or this failed
 abbrev pub Finds : List ℕ → Result (Vec Row Global) OutFault → Store → Store → Type 0
 Finds player result = InStore
-    (λ old new. IfOk result (λ found. Selects player (map entry_of found.items) old new))
+    (λ old new. MatchResult result
+    (λ found. Selects player (map entry_of found.items) old new)
+    (λ e. e ≡ Failed → FailsToSelect player old new))
     (result ≡ Err Failed)

@@ -1,8 +1,10 @@
 // The statements of the store, each by its own text with parameters.
-ghost use Rattle.std.specs.Prelude.{◌≡◌, map, string_bytes, IfOk};
+ghost use Rattle.std.specs.Prelude.{◌≡◌, ◌≢◌, ◌≤◌, ℕ, pos, List, map, string_bytes, All, IsUtf8, IfOk, IfErr};
+ghost use Rattle.sqlite.specs.Order.{column};
+ghost use Rattle.sqlite.specs.declared.types.Value.TheVariants.{Int, Text};
 ghost use Rattle.sqlite.specs.Held.{state};
 ghost use Rattle.pg_keep.specs.Rows.{entry_of};
-ghost use Rattle.pg_keep_sql.specs.Statements.{Inserts, MakesTable, Selects, fault, values, with_player};
+ghost use Rattle.pg_keep_sql.specs.Statements.{FailsToSelect, Fits, Inserts, IsRefusal, MakesTable, Selects, fault, values, with_player};
 
 use pg_base::OutFault;
 use pg_keep::Row;
@@ -50,8 +52,10 @@ pub(crate) fn find<S: Alter>(
     conn: &mut Connection<S>,
     player: &str,
 ) -> Result<Vec<Row>, Error>
-    ensures { IfOk result (λ found.
+    ensures rows { IfOk result (λ found.
         Selects player.now (map entry_of found.items) (state S.Store conn.old) (state S.Store conn.new)) }
+    ensures fails { IfErr result (λ e. IsRefusal e
+        → FailsToSelect player.now (state S.Store conn.old) (state S.Store conn.new)) }
 {
     let shown = conn.query_all(SELECT, params![player])?;
     rows_from(alloc, &shown, player)
@@ -59,8 +63,9 @@ pub(crate) fn find<S: Alter>(
 
 /// What is shown of a player's rows as rows.
 fn rows_from(alloc: Global, shown: &[sqlite::Row], player: &str) -> Result<Vec<Row>, Error>
-    ensures { IfOk result (λ found.
+    ensures rows { IfOk result (λ found.
         map (with_player player.now) shown.now ≡ map values (map entry_of found.items)) }
+    ensures other { IfErr result (λ e. IsRefusal e → ¬ All (Fits player.now) shown.now) }
 {
     let mut found = Vec::new(alloc);
     for row in shown {
@@ -71,28 +76,43 @@ fn rows_from(alloc: Global, shown: &[sqlite::Row], player: &str) -> Result<Vec<R
 
 /// A row that is shown, where its values fit.
 fn row_from(shown: &sqlite::Row, player: String) -> Result<Row, Error>
-    ensures { IfOk result (λ row.
+    ensures row { IfOk result (λ row.
         with_player (string_bytes player) shown.now ≡ values (entry_of row)) }
+    ensures other { IfErr result (λ e. IsRefusal e → ¬ Fits (string_bytes player) shown.now) }
 {
-    let no: u32 = shown.get(0)?;
-    let world: String = shown.get(1)?;
-    let level: i64 = shown.get(2)?;
-    let script: String = shown.get(3)?;
-    let closed: i64 = shown.get(4)?;
-    let Ok(level) = u16::try_from(level) else {
-        return Err(Error::IntegralValueOutOfRange(2));
-    };
-    if closed != 0 && closed != 1 {
-        return Err(Error::IntegralValueOutOfRange(4));
-    }
+    let no = number(shown, 0, u32::MAX)?;
+    let world = text(shown, 1)?;
+    let level = number(shown, 2, 65_535)?;
+    let script = text(shown, 3)?;
+    let closed = number(shown, 4, 1)?;
     Ok(Row {
         player,
         no,
         world,
-        level,
+        level: level as u16,
         script,
         closed: closed == 1,
     })
+}
+
+/// The number in a column, which is at most this one.
+fn number(shown: &sqlite::Row, at: usize, most: u32) -> Result<u32, Error>
+    ensures number { IfOk result (λ n. (n ≤ most) × (column shown.now at ≡ Int (pos n))) }
+    ensures other { IfErr result (λ e. IsRefusal e → (n : ℕ) → n ≤ most → column shown.now at ≢ Int (pos n)) }
+{
+    let number: u32 = shown.get(at)?;
+    if number > most {
+        return Err(Error::IntegralValueOutOfRange(at));
+    }
+    Ok(number)
+}
+
+/// The text in a column.
+fn text(shown: &sqlite::Row, at: usize) -> Result<String, Error>
+    ensures text { IfOk result (λ text. column shown.now at ≡ Text (string_bytes text)) }
+    ensures other { IfErr result (λ e. IsRefusal e → (text : List ℕ) → IsUtf8 text → column shown.now at ≢ Text text) }
+{
+    shown.get(at)
 }
 
 /// Want of memory, or any other refusal.
