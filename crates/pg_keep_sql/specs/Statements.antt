@@ -70,13 +70,20 @@ Fits player shown = (row : Entry) × IsRow row × (with_player player shown ≡ 
 abbrev pub IsRefusal : Error → Type 0
 IsRefusal e = e ≢ SqliteFailure code.OutOfMemory
 
+-- these are shown of the player
+abbrev pub Shows : List ℕ → List Row → State → State → Type 0
+Shows player shown old new = HasCleanDisk new → Shown select_text (Text player ∷ []) old new shown
+
+-- the database refused to show them
+abbrev pub Refuses : List ℕ → Error → State → State → Type 0
+Refuses player e old new = HasCleanDisk new → FailsToQuery select_text (Text player ∷ []) old new e
+
 -- the rows are those that are shown of the player
 abbrev pub Selects : List ℕ → List Entry → State → State → Type 0
-Selects player rows old new = HasCleanDisk new → (shown : List Row)
-    × Shown select_text (Text player ∷ []) old new shown × (map (with_player player) shown ≡ map values rows)
+Selects player rows old new = (shown : List Row) × Shows player shown old new
+    × (map (with_player player) shown ≡ map values rows)
 
 -- the database refused to show them, or one that is shown is no row
 abbrev pub FailsToSelect : List ℕ → State → State → Type 0
-FailsToSelect player old new = HasCleanDisk new
-    → ((e : Error) × FailsToQuery select_text (Text player ∷ []) old new e)
-    ⊎ ((shown : List Row) × Shown select_text (Text player ∷ []) old new shown × (¬ All (Fits player) shown))
+FailsToSelect player old new = ((e : Error) × Refuses player e old new)
+    ⊎ ((shown : List Row) × Shows player shown old new × (¬ All (Fits player) shown))

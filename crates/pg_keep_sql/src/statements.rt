@@ -4,7 +4,7 @@ ghost use Rattle.sqlite.specs.Order.{column};
 ghost use Rattle.sqlite.specs.declared.types.Value.TheVariants.{Int, Text};
 ghost use Rattle.sqlite.specs.Held.{state};
 ghost use Rattle.pg_keep.specs.Rows.{entry_of};
-ghost use Rattle.pg_keep_sql.specs.Statements.{FailsToSelect, Fits, Inserts, IsRefusal, MakesTable, Selects, fault, values, with_player};
+ghost use Rattle.pg_keep_sql.specs.Statements.{FailsToSelect, Fits, Inserts, IsRefusal, MakesTable, Refuses, Selects, Shows, fault, values, with_player};
 
 use pg_base::OutFault;
 use pg_keep::Row;
@@ -57,8 +57,18 @@ pub(crate) fn find<S: Alter>(
     ensures fails { IfErr result (λ e. IsRefusal e
         → FailsToSelect player.now (state S.Store conn.old) (state S.Store conn.new)) }
 {
-    let shown = conn.query_all(SELECT, params![player])?;
+    let shown = select(conn, player)?;
     rows_from(alloc, &shown, player)
+}
+
+/// What the database shows of a player's rows.
+fn select<S: Alter>(conn: &mut Connection<S>, player: &str) -> Result<Vec<sqlite::Row>, Error>
+    ensures shown { IfOk result (λ shown.
+        Shows player.now shown.items (state S.Store conn.old) (state S.Store conn.new)) }
+    ensures fails { IfErr result (λ e.
+        Refuses player.now e (state S.Store conn.old) (state S.Store conn.new)) }
+{
+    conn.query_all(SELECT, params![player])
 }
 
 /// What is shown of a player's rows as rows.
