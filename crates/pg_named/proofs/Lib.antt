@@ -1,2 +1,4 @@
 pub mod Clashes
+pub mod Differ
 pub mod Places
+pub mod Room

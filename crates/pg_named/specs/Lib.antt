@@ -1,3 +1,4 @@
+pub mod Bound
 pub mod Found
 pub mod Own
 pub mod View

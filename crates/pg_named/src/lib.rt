@@ -2,10 +2,13 @@
 //! or binds.
 #![tactic(auto)]
 
+mod binders;
+mod bound;
 mod given;
 mod names;
 mod search;
 
+pub use bound::parameters_fault;
 pub use given::{
     Given, GivenNames, constant_names, function_names, predicate_names, statement_names,
 };
