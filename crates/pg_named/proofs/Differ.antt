@@ -63,7 +63,7 @@ clash_behind : (at place : ℕ) (o : Option ℕ) (fs : List Fault) → at < plac
 clash_behind at place None fs l b = b
 clash_behind at place (Some first) fs l b = earlier_behind at (fault place (Duplicate first)) (least fs) l b
 
-lower : (at place : ℕ) (ws : List Word) → at < place → RisesFrom place ws → RisesFrom at ws
+pub lower : (at place : ℕ) (ws : List Word) → at < place → RisesFrom place ws → RisesFrom at ws
 lower at place [] l r = tt
 lower at place (w ∷ ws) l r = (omega (arith, l, r.0), r.1)
 
@@ -81,7 +81,7 @@ none_up_to at (w ∷ ws) r = ap (λ (t : Bool). cond t (up_to (Some at) ws) (w �
     is_behind : (a b : ℕ) → a < b → nat_lt a b ≡ true
     is_behind a b lt = grind (arith, nat_tests)
 
-rises : (at : ℕ) (ws : List Word) → RisesFrom at ws → Rises ws
+pub rises : (at : ℕ) (ws : List Word) → RisesFrom at ws → Rises ws
 rises at [] o = tt
 rises at (w ∷ ws) o = o.1
 

@@ -5,6 +5,7 @@
 mod binders;
 mod bound;
 mod given;
+mod laws;
 mod names;
 mod search;
 
@@ -12,4 +13,5 @@ pub use bound::parameters_fault;
 pub use given::{
     Given, GivenNames, constant_names, function_names, predicate_names, statement_names,
 };
+pub use laws::rising_law;
 pub use names::Names;
