@@ -3,6 +3,7 @@ use Rattle.std.specs.Prelude.{ℕ, suc, ◌+◌, ◌-◌, ◌*◌, Bool, true, f
 use Rattle.std.specs.Str.{bytes_eq}
 use Rattle.std.specs.List.{list_any}
 use Rattle.pg_base.specs.declared.token.TokenKind.TheVariants as kind
+use Rattle.pg_base.specs.Spans.{token_end}
 use Rattle.pg_base.specs.Tokens.{Word}
 use Rattle.pg_logic.specs.Tree.{Tm, Fm}
 use Rattle.pg_logic.specs.Axioms.{constant_axiom}
@@ -182,13 +183,14 @@ abbrev pub hints_of : Result (List Entry) ScriptFault → List ℕ
 hints_of (Ok es) = hints_in_all (entries_of es)
 hints_of (Err e) = []
 
--- a text that makes the word `Hint` before it a hint
+-- an empty text right behind this word, which makes a word `Hint` a hint
 abbrev pub some_text : Word → Word
-some_text w = record { kind = kind.Text; text = []; at = w.at; column = w.column; first = false }
+some_text w = record { kind = kind.Text; text = []; at = token_end w; column = w.column; first = false }
 
 -- whether this token, behind this front of a block, is the word of a hint: with a text behind it a script ends in that hint
 abbrev pub is_hint_word : List Word → Word → Bool
-is_hint_word front w = is_word (codes "Hint") w && list_any (λ at. at == w.at) (hints_of (items_of (front ++ w ∷ some_text w ∷ []) 0 true))
+is_hint_word front w =
+    is_word (codes "Hint") w && list_any (λ at. at == w.at) (hints_of (items_of (front ++ w ∷ some_text w ∷ []) (token_end (some_text w)) true))
 
 -- the words of hints in a block that is broken somewhere behind them
 abbrev pub hint_words : (front ws : List Word) → List ℕ

@@ -1,3 +1,4 @@
 pub mod Ends
 pub mod Counts
 pub mod Tests
+pub mod Words

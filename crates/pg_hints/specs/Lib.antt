@@ -1,2 +1,3 @@
 pub mod Counts
 pub mod Samples
+pub mod Words

@@ -1,5 +1,6 @@
 // The hints of a script, counted down from how many more there may be.
-ghost use Rattle.std.specs.Prelude.{◌≡◌, map, ◌∷◌, []};
+ghost use Rattle.std.specs.Prelude.{◌≡◌, ◌==◌, map, ◌∷◌, []};
+ghost use Rattle.std.specs.List.{list_any};
 ghost use Rattle.pg_script.specs.View.{entry};
 ghost use Rattle.pg_script.specs.Data.{entries_of};
 ghost use Rattle.pg_gametext.specs.Checks.{hints_in, hints_in_all};
@@ -44,11 +45,37 @@ fn left_behind(room: u32, item: &Item<'_>) -> Result<u32, u32>
 }
 
 /// Takes one hint off, or tells its place where none is left.
-fn one_less(room: u32, at: u32) -> Result<u32, u32>
+pub(crate) fn one_less(room: u32, at: u32) -> Result<u32, u32>
     ensures { result ≡ left_of room (at ∷ []) }
 {
     if room == 0 {
         return Err(at);
     }
     Ok(room - 1)
+}
+
+/// Whether one of these items, or an item within them, is a hint whose word stands at this byte.
+#[cycle(is_hint_at)]
+pub(crate) fn has_hint_at(at: u32, items: &[Item<'_>]) -> bool
+    ensures { result ≡ list_any (λ a. a == at) (hints_in_all (entries_of (map entry items.now))) }
+{
+    for item in items {
+        if is_hint_at(at, item) {
+            return true;
+        }
+    }
+    false
+}
+
+/// Whether an item is such a hint, or holds one.
+#[cycle(is_hint_at)]
+fn is_hint_at(at: u32, item: &Item<'_>) -> bool
+    ensures { result ≡ list_any (λ a. a == at) (hints_in (entry item.now)) }
+{
+    match item {
+        Item::Move(_) => false,
+        Item::Focus(items) => has_hint_at(at, items.as_slice()),
+        Item::Branch(items) => has_hint_at(at, items.as_slice()),
+        Item::Hint(hint) => hint.at == at,
+    }
 }

@@ -1,5 +1,5 @@
 // What is asked of a block's tokens.
-ghost use Rattle.std.specs.Prelude.{◌≡◌, ◌<◌, ◌≤◌, ◌^◌, ◌==◌, ◌&&◌, codes};
+ghost use Rattle.std.specs.Prelude.{◌≡◌, ◌<◌, ◌≤◌, ◌^◌, ◌==◌, ◌&&◌};
 ghost use Rattle.pg_base.specs.Tokens.{word};
 ghost use Rattle.pg_base.specs.Spans.{AreInOrder, AreTokens, token_end};
 ghost use Rattle.pg_script.specs.Scripts.{last_end};
@@ -17,15 +17,16 @@ pub(crate) fn is_sorry(block: Span<'_, '_>) -> bool
     ensures { result ≡ is_sorry (part block.entry) }
 {
     match block.tokens {
-        [only] => is_sorry_word(only),
+        [only] => is_word("sorry", only),
         _ => false,
     }
 }
 
-fn is_sorry_word(token: &Token<'_>) -> bool
-    ensures { result ≡ is_word (codes "sorry") (word token.now) }
+/// Whether a token is the name of this text.
+pub(crate) fn is_word(text: &str, token: &Token<'_>) -> bool
+    ensures { result ≡ is_word text.now (word token.now) }
 {
-    matches!(token.kind, TokenKind::Name) && token.text == "sorry"
+    matches!(token.kind, TokenKind::Name) && token.text == text
 }
 
 /// Whether a `(` stands at this byte.
@@ -58,7 +59,7 @@ pub(crate) fn span(tokens: &[Token<'_>], end: u32) -> u32
 }
 
 /// The byte behind a token.
-fn token_end(token: &Token<'_>) -> u32
+pub(crate) fn token_end(token: &Token<'_>) -> u32
     requires { token_end (word token.now) < 2 ^ 32 }
     ensures { result ≡ token_end (word token.now) }
 {

@@ -7,6 +7,7 @@ use Rattle.std.specs.Str.{bytes_eq}
 use Rattle.pg_gametext.specs.Before.{Given, least_with, first_place, only_declared}
 use Rattle.pg_named.specs.declared.given.Given.{Given as Entry}
 use Rattle.pg_named.specs.View.{given}
+use Rattle.pg_named.specs.Bound.{over}
 use Rattle.pg_named.specs.Found.{kept, counts, sooner_place, with_entry}
 
 least_assoc : (a b c : ℕ) → min a (min b c) ≡ min (min a b) c
@@ -118,3 +119,8 @@ pub in_first : (x : List ℕ) (es fs es' : List Entry) (declared : Bool) (a : Op
 in_first x es fs es' declared a a_is e d =
     a_is ∙ ap (λ zs. first_place x (map given zs)) e ∙ sym (reversed x false es)
     ∙ ap (λ (t : Bool). first_place x (if t then map given (reverse es) ++ map given (reverse fs) else map given (reverse es))) (sym d)
+
+-- names before others
+pub over_place : (x : List ℕ) (taken gs : List Given) → first_place x (over taken gs) ≡ sooner_place (first_place x gs) (first_place x taken)
+over_place x taken [] = refl
+over_place x taken (g ∷ gs) = over_place x (g ∷ taken) gs ∙ chosen g.at (first_place x gs) (first_place x taken) (bytes_eq x g.name)

@@ -2,11 +2,16 @@
 //! or binds.
 #![tactic(auto)]
 
+mod binders;
+mod bound;
 mod given;
+mod laws;
 mod names;
 mod search;
 
+pub use bound::parameters_fault;
 pub use given::{
     Given, GivenNames, constant_names, function_names, predicate_names, statement_names,
 };
+pub use laws::rising_law;
 pub use names::Names;

@@ -1,15 +1,19 @@
 // The names before a place.
 ghost use Rattle.std.specs.Prelude.{◌≡◌, ◌++◌, [], IfOk, map, reverse, if◌then◌else◌, false};
+ghost use Rattle.pg_forms.specs.View.{binder};
 ghost use Rattle.pg_faults.specs.View.{found};
-ghost use Rattle.pg_gametext.specs.Faults.{least};
-ghost use Rattle.pg_gametext.specs.Before.{builtin_names, first_place};
-ghost use Rattle.pg_gametext.specs.Checks.{given_faults};
+ghost use Rattle.pg_gametext.specs.Faults.{least, one_over, variable_limit, hypothesis_limit, Variables, Hypotheses};
+ghost use Rattle.pg_gametext.specs.Before.{builtin_names, first_place, bound_name, all_binder_words, only_declared};
+ghost use Rattle.pg_gametext.specs.Checks.{given_faults, differing_faults, variable_words, hypothesis_words};
 ghost use Rattle.pg_named.specs.View.{given, maybe_given, given_before, bound_before, listed};
 ghost use Rattle.pg_named.specs.Own.{own_clash, with_own};
+ghost use Rattle.pg_named.specs.Bound.{Rises};
 
+use crate::binders::{add_binders, binders_fault};
 use crate::given::{Given, GivenNames};
 use crate::search::{clash, first_place, sooner_place, with_entry};
 use pg_faults::{Fault, sooner};
+use pg_forms::BinderText;
 use std::alloc::{AllocError, Global};
 
 /// The names that stand before a place: those given, each with its place and whether it is declared, and those of
@@ -81,6 +85,28 @@ impl<'a> Names<'a> {
         add(&mut self.given, names.third)?;
         add(&mut self.given, names.second)?;
         add(&mut self.given, names.first)
+    }
+
+    /// The first fault of the names of a statement's variables and hypotheses, whose words stand in order of place: each
+    /// differs from the declared names before it and from those before it in the statement, and there are at most 64
+    /// variables and 64 hypotheses. The one error is want of memory.
+    pub fn binders_fault(
+        &self,
+        alloc: Global,
+        binders: &[BinderText<'_, 'a>],
+    ) -> Result<Option<Fault>, AllocError>
+        requires { Rises (all_binder_words (map binder binders.now)) }
+        ensures { IfOk result (λ f. found f ≡ least (differing_faults (only_declared (given_before self.now)) (map bound_name (all_binder_words (map binder binders.now))) ++ (one_over Variables variable_limit (variable_words (map binder binders.now)) ++ one_over Hypotheses hypothesis_limit (hypothesis_words (map binder binders.now))))) }
+    {
+        binders_fault(alloc, &self.given, binders)
+    }
+
+    /// Adds the names of a statement's variables and hypotheses.
+    pub fn add_bound(&mut self, binders: &[BinderText<'_, 'a>]) -> Result<(), AllocError>
+        ensures bound { IfOk result (λ u. bound_before self.new ≡ map bound_name (all_binder_words (map binder binders.now)) ++ bound_before self.old) }
+        ensures given { given_before self.new ≡ given_before self.old }
+    {
+        add_binders(&mut self.bound, binders)
     }
 }
 
