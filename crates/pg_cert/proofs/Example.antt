@@ -1,9 +1,9 @@
 -- The example of docs/CERTIFICATES.md.
-use Rattle.std.proofs.Common.{◌≡◌, [], ◌∷◌, refl}
+use Rattle.std.proofs.Common.{◌≡◌, [], refl}
 use Rattle.std.specs.Prelude.{codes}
 use Rattle.std.specs.Fmt.{digits}
 use Rattle.pg_logic.specs.Tree.{free, bound, nought, succ, app, none, arg, eq, all}
-use Rattle.pg_logic.specs.Kernel.{Pf, hyp, thm, alli, alle, repl, ind}
+use Rattle.pg_logic.specs.Kernel.{hyp, thm, alli, alle, repl, ind}
 use Rattle.pg_cert.specs.Certificates.{certificate_text}
 
 example : certificate_text (codes "Addition") 1

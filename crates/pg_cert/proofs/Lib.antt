@@ -1,2 +1,2 @@
 mod Example
-mod Nodes
+pub mod Stack

@@ -1,9 +1,7 @@
--- The rules' texts and their premises, apart from one another; and that writing open nodes from a stack writes the lines of a proof.
-use Rattle.std.proofs.Common.{◌≡◌, ℕ, ◌+◌, ◌-◌, ◌*◌, ◌≤◌, ◌<◌, List, [], ◌∷◌, ◌++◌, length, take, drop, refl, arith, ap, sym, ◌∙◌, rules, codes}
-use Rattle.std.proofs.Math.Seq.{drop-append_seam, take-append_seam}
-use Rattle.std.proofs.lemmas.List.{length-append, append_assoc}
-use Rattle.pg_logic.specs.Kernel.{Pf, proof_nodes, hyp, thm, andi, andl, andr, orl, orr, ore, impi, impe, fale, lem, alli, alle, exi, exe, reflexive, repl, ind, predi, prede}
-use Rattle.pg_cert.specs.Certificates.{line_text, number, formula, term, after, root, leaf, one, two, three, proof_text}
+-- Of use inside alone: the text of a rule, its premises, and the writing of a proof from a stack of what is open.
+use Rattle.std.specs.Prelude.{ℕ, ◌+◌, ◌-◌, List, [], ◌∷◌, ◌++◌, length, take, drop, codes}
+use Rattle.pg_logic.specs.Kernel.{Pf, hyp, thm, andi, andl, andr, orl, orr, ore, impi, impe, fale, lem, alli, alle, exi, exe, reflexive, repl, ind, predi, prede}
+use Rattle.pg_cert.specs.Certificates.{line_text, number, formula, term, after, root, proof_text}
 
 -- a rule's word with its fields
 abbrev pub rule_text : Pf → List ℕ
@@ -85,32 +83,3 @@ all_done (t ∷ ts) s = done t (all_done ts s)
 abbrev pub tasks_of : Pf → List Pf → List Task
 tasks_of p [] = last p ∷ []
 tasks_of p (q ∷ qs) = tasks_of p qs ++ whole q ∷ []
-
-pub all_done-append : (ts us : List Task) (s : Lines) → all_done (ts ++ us) s ≡ all_done ts (all_done us s)
-all_done-append [] us s = refl
-all_done-append (t ∷ ts) us s = ap (done t) (all_done-append ts us s)
-
-drop_last : (us vs : List ℕ) (k : ℕ) → length vs ≡ k → drop (length (us ++ vs) - k) (us ++ vs) ≡ vs
-drop_last us vs k e =
-    let at : length (us ++ vs) - k ≡ length us = let l = length-append us vs in omega (arith, l, e) in
-    ap (λ i. drop i (us ++ vs)) at ∙ drop-append_seam us vs
-
-take_last : (us vs : List ℕ) (k : ℕ) → length vs ≡ k → take (length (us ++ vs) - k) (us ++ vs) ≡ us
-take_last us vs k e =
-    let at : length (us ++ vs) - k ≡ length us = let l = length-append us vs in omega (arith, l, e) in
-    ap (λ i. take i (us ++ vs)) at ∙ take-append_seam us vs
-
-abbrev lines : List ℕ → List ℕ → ℕ → Lines
-lines t u n = record { text = t; unused = u; next = n }
-
-lines-same : (t s u v : List ℕ) (n m : ℕ) → t ≡ s → u ≡ v → n ≡ m → lines t u n ≡ lines s v m
-lines-same t s u v n m e f g = search (e, f, g)
-
--- a line behind its premises' lines
-closed : (t body u rs : List ℕ) (n k : ℕ) (rule : List ℕ) → length rs ≡ k →
-    with_line k rule (lines (t ++ body) (u ++ rs) n) ≡ lines (t ++ (body ++ line_text n rule rs)) (u ++ n ∷ []) (n + 1)
-closed t body u rs n k rule e =
-    lines-same _ _ _ _ _ _ (ap (λ vs. (t ++ body) ++ line_text n rule vs) (drop_last u rs k e) ∙ append_assoc t body _) (ap (λ us. us ++ n ∷ []) (take_last u rs k e)) refl
-
-step_0 : (rule : List ℕ) (n m : ℕ) (t u : List ℕ) → n + 1 ≡ m → lines (t ++ leaf rule n) (u ++ (m - 1) ∷ []) m ≡ with_line 0 rule (lines t u n)
-step_0 rule n m t u e = search (sym (closed t [] u [] n 0 rule refl), rules)
