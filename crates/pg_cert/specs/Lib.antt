@@ -1,0 +1,4 @@
+pub mod Certificates
+pub mod Open
+pub mod Spelling
+pub mod View
