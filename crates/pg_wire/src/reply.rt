@@ -53,18 +53,44 @@ impl Reply {
 
 /// The bytes of a reply. A 507 is sent as want of memory, whatever it holds. `allow` is the verb that the path has, where the
 /// status is 405; `closes` says that the connection ends by this reply.
-pub fn reply_bytes(alloc: Global, reply: &Reply, allow: Option<Verb>, closes: bool) -> Result<String, AllocError>
+pub fn reply_bytes(
+    alloc: Global,
+    reply: &Reply,
+    allow: Option<Verb>,
+    closes: bool,
+) -> Result<String, AllocError>
     requires { IsStatusCode reply.now.status }
     ensures { IfOk result (λ text. string_bytes text ≡ replies.reply_bytes (said_of reply.now) (option_map verb_view allow) closes) }
 {
     if reply.status == 507 {
-        return whole(alloc, 507, BodyKind::Json, allow, closes, "{\"error\":\"memory\"}");
+        return whole(
+            alloc,
+            507,
+            BodyKind::Json,
+            allow,
+            closes,
+            "{\"error\":\"memory\"}",
+        );
     }
-    whole(alloc, reply.status, reply.kind, allow, closes, reply.body.as_str())
+    whole(
+        alloc,
+        reply.status,
+        reply.kind,
+        allow,
+        closes,
+        reply.body.as_str(),
+    )
 }
 
 // The bytes of a reply with these parts.
-fn whole(alloc: Global, status: u16, kind: BodyKind, allow: Option<Verb>, closes: bool, body: &str) -> Result<String, AllocError>
+fn whole(
+    alloc: Global,
+    status: u16,
+    kind: BodyKind,
+    allow: Option<Verb>,
+    closes: bool,
+    body: &str,
+) -> Result<String, AllocError>
     requires { IsStatusCode status }
     ensures { IfOk result (λ text. string_bytes text ≡ replies.message_bytes
         (record { status = status; kind = kind_view kind; body = body.now }) (option_map verb_view allow) closes) }
@@ -75,7 +101,13 @@ fn whole(alloc: Global, status: u16, kind: BodyKind, allow: Option<Verb>, closes
     joined(alloc, first.as_str(), kinds.as_str(), sizes.as_str(), body)
 }
 
-fn joined(alloc: Global, first: &str, kinds: &str, sizes: &str, body: &str) -> Result<String, AllocError>
+fn joined(
+    alloc: Global,
+    first: &str,
+    kinds: &str,
+    sizes: &str,
+    body: &str,
+) -> Result<String, AllocError>
     ensures { IfOk result (λ text. string_bytes text ≡ first.now ++ (kinds.now ++ (sizes.now ++ body.now))) }
 {
     format!(in alloc; "{first}{kinds}{sizes}{body}")
@@ -109,7 +141,10 @@ fn phrase(status: u16) -> &'static str
     requires { IsStatusCode status }
     ensures { result.now ≡ unwrap_or (reason_phrase status) [] }
 {
-    StatusCode::from_u16(status).unwrap().canonical_reason().unwrap_or("")
+    StatusCode::from_u16(status)
+        .unwrap()
+        .canonical_reason()
+        .unwrap_or("")
 }
 
 fn allow_line(allow: Option<Verb>) -> &'static str
